@@ -1,0 +1,155 @@
+-- An answer that fits goes on fitting: as answers come that change nothing before its line or pending at the journal's lines,
+-- and as the journal grows at its end by lines of no earlier phase.
+use Rattle.std.proofs.Common.{◌≡◌, ℕ, zero, suc, ◌≤◌, Bool, true, false, IsTrue, List, [], ◌∷◌, ◌++◌, length, Option, Some, None, IsSome, IsNone, IfSome, IsSomeAnd, MatchBool, ◌==◌, slice_get, sym, ◌∙◌, subst, append-nil, append_assoc, arith}
+use Rattle.std.specs.List.{AllByRecursion}
+use Rattle.std.proofs.lemmas.Option.{none-some}
+use Rattle.std.proofs.lemmas.List.{take-append-le, length_push}
+use Rattle.fs_types.specs.declared.answer.Answer.{Answer}
+use Rattle.fs_types.specs.declared.answer.Answer.TheVariants as answers
+use Rattle.fs_types.specs.Overwrite.{shown}
+use Rattle.fs_types.specs.PlainFile.{File, is_open_to_change}
+use Rattle.fs_script.specs.declared.line.OpLine.{OpLine}
+use Rattle.fs_script.specs.declared.line.Op.{Op}
+use Rattle.fs_script.specs.declared.line.Op.TheVariants as ops
+use Rattle.fs_script.specs.Job.{Job, phase}
+use Rattle.fs_script.specs.Payload.{bytes_of}
+use Rattle.fs_script.specs.Pending.{Answering}
+use Rattle.fs_script.specs.Effect.{state}
+use Rattle.fs_script.specs.Front.{version_of, front}
+use Rattle.fs_script.specs.Fits.{IsNoLater, IsInReach, entry, AreTold, Shows, AgreesWithOpen, View, view_of, MayWrite, Answers, Fits}
+use Rattle.fs_script.specs.Growth.{AgreeBefore, SamePending}
+use Rattle.fs_script.proofs.Agreement.{pending-agree, is_open-agree}
+use Rattle.fs_script.proofs.States.{state_in-agree, state_in-push, state_in-longer-keeps, state_in-open}
+use Rattle.fs_script.proofs.Fronts.{front-agree, front-push}
+
+-- ---- answers come
+
+IsInReach-agree : (s : Job) (A B : Answering) (J : List ℕ) (n : ℕ) (o : OpLine) (v : ℕ) → AgreeBefore s o.rank o.path A B n → IsInReach s A J n o v → IsInReach s B J n o v
+IsInReach-agree s A B J n o v h reach = record {
+  front = subst (λ k. k ≤ v) (front-agree s A B J o.rank o.path n h) reach.front;
+  length = reach.length;
+  no_later = reach.no_later;
+}
+
+IfSome-agree : (s : Job) (A B : Answering) (J : List ℕ) (n : ℕ) (o : OpLine) (v : Option ℕ) → AgreeBefore s o.rank o.path A B n → IfSome v (λ w. IsInReach s A J n o w) → IfSome v (λ w. IsInReach s B J n o w)
+IfSome-agree s A B J n o None h reach = tt
+IfSome-agree s A B J n o (Some v) h reach = IsInReach-agree s A B J n o v h reach
+
+-- what an answer is checked against is the same
+view_of-agree : (s : Job) (A B : Answering) (J : List ℕ) (n : ℕ) (o : OpLine) → AgreeBefore s o.rank o.path A B n → SamePending s A B J → view_of s A J n o ≡ view_of s B J n o
+view_of-agree s A B J n o h same i = record {
+  number = n;
+  journal = J;
+  file = λ v. state_in-agree s (bytes_of s) A B J v same i;
+  front = front-agree s A B J o.rank o.path n h i;
+  pending = pending-agree s o.rank o.path A B n h i;
+  chunk = s.shape.chunk;
+}
+
+-- answers of others, and later answers of the same client, leave it fitting
+pub Fits-agree : (told : List ℕ) (s : Job) (A B : Answering) (J : List ℕ) (n : ℕ) (o : OpLine) (a : Answer) → AgreeBefore s o.rank o.path A B n → SamePending s A B J
+    → Fits told s A J n o a → Fits told s B J n o a
+Fits-agree told s A B J n o a h same fits = record {
+  opened = subst (λ b. AgreesWithOpen o.op b a) (is_open-agree s o.rank o.path A B n h) fits.opened;
+  version = IfSome-agree s A B J n o (version_of a) h fits.version;
+  answer = subst (λ w. Answers (AreTold s told) w o.op a) (view_of-agree s A B J n o h same) fits.answer;
+}
+
+-- ---- the journal grows
+
+slice_get-push : {X : Type 0} (xs : List X) (y : X) (k : ℕ) (x : X) → slice_get xs k ≡ Some x → slice_get (xs ++ y ∷ []) k ≡ Some x
+slice_get-push [] y k x h = absurd (none-some x h)
+slice_get-push (z ∷ xs) y zero x h = h
+slice_get-push (z ∷ xs) y (suc k) x h = slice_get-push xs y k x h
+
+entry-push : (J : List ℕ) (m v n : ℕ) → entry J v ≡ Some n → entry (J ++ m ∷ []) v ≡ Some n
+entry-push J m zero n h = absurd (none-some n h)
+entry-push J m (suc k) n h = slice_get-push J m k n h
+
+IsInReach-push : (s : Job) (A : Answering) (J : List ℕ) (m n : ℕ) (o : OpLine) (v : ℕ) → phase s n ≤ phase s m → IsInReach s A J n o v → IsInReach s A (J ++ m ∷ []) n o v
+IsInReach-push s A J m n o v later reach = record {
+  front = subst (λ k. k ≤ v) (sym (front-push s A J o.rank o.path n m later)) reach.front;
+  length = omega (arith, length_push J m, reach.length);
+  no_later = subst (λ K. AllByRecursion (λ k. IsNoLater s o.rank n k) K) (sym (take-append-le v J (m ∷ []) reach.length)) reach.no_later;
+}
+
+IfSome-push : (s : Job) (A : Answering) (J : List ℕ) (m n : ℕ) (o : OpLine) (v : Option ℕ) → phase s n ≤ phase s m → IfSome v (λ w. IsInReach s A J n o w) → IfSome v (λ w. IsInReach s A (J ++ m ∷ []) n o w)
+IfSome-push s A J m n o None later reach = tt
+IfSome-push s A J m n o (Some v) later reach = IsInReach-push s A J m n o v later reach
+
+-- a version that an answer prints keeps its file
+version-state-push : (s : Job) (A : Answering) (J : List ℕ) (m n : ℕ) (o : OpLine) (v : Option ℕ) → IfSome v (λ w. IsInReach s A J n o w) → IfSome v (λ w. state s A (J ++ m ∷ []) w ≡ state s A J w)
+version-state-push s A J m n o None reach = tt
+version-state-push s A J m n o (Some v) reach = state_in-push s (bytes_of s) A J m v reach.length
+
+MatchBool-push : {P Q R S : Type 0} (b : Bool) → (P → R) → (Q → S) → MatchBool b P Q → MatchBool b R S
+MatchBool-push true f g h = f h
+MatchBool-push false f g h = g h
+
+-- with a longer journal, the same files at the versions that an answer prints, and no file taken from a writer
+Answers-push : (compared : Type 0) (w : View) (K : List ℕ) (g : ℕ → File ℕ) (op : Op) (a : Answer)
+    → ((v n : ℕ) → entry w.journal v ≡ Some n → entry K v ≡ Some n)
+    → IfSome (version_of a) (λ v. g v ≡ w.file v)
+    → (MayWrite w → IsTrue (is_open_to_change (g w.front)))
+    → Answers compared w op a → Answers compared (record w { journal = K; file = g }) op a
+Answers-push compared w K g ops.Create (answers.Done v) entries file writes h = entries v w.number h
+Answers-push compared w K g ops.Create (answers.Exists v) entries file writes h = subst (λ f. IsSome f) (sym file) h
+Answers-push compared w K g ops.Create a entries file writes h = absurd h
+Answers-push compared w K g (ops.Write off text) answers.BadF entries file writes h = tt
+Answers-push compared w K g (ops.Write off text) (answers.NoEnt v) entries file writes h = (h.0, subst (λ f. IsNone f) (sym file) h.1)
+Answers-push compared w K g (ops.Write off text) answers.TooBig entries file writes h = (writes h.0, h.1)
+Answers-push compared w K g (ops.Write off text) (answers.Wrote slots) entries file writes h = (writes h.0, h.1, h.2)
+Answers-push compared w K g (ops.Write off text) a entries file writes h = absurd h
+Answers-push compared w K g ops.Sync answers.BadF entries file writes h = tt
+Answers-push compared w K g ops.Sync (answers.NoEnt v) entries file writes h = subst (λ f. IsNone f) (sym file) h
+Answers-push compared w K g ops.Sync (answers.Done v) entries file writes h = MatchBool-push (length w.pending == 0) (λ k. subst (λ f. IsSome f) (sym file) k) (λ k. entries v w.number k) h
+Answers-push compared w K g ops.Sync a entries file writes h = absurd h
+Answers-push compared w K g (ops.Read off len) answers.BadF entries file writes h = tt
+Answers-push compared w K g (ops.Read off len) (answers.NoEnt v) entries file writes h = subst (λ f. IsNone f) (sym file) h
+Answers-push compared w K g (ops.Read off len) (answers.Shown v n body) entries file writes h = subst (λ f. IsSomeAnd f (λ x. Shows compared (shown x.cells off len) n body)) (sym file) h
+Answers-push compared w K g (ops.Read off len) a entries file writes h = absurd h
+
+Fits-push_from : (told : List ℕ) (s : Job) (A : Answering) (J : List ℕ) (m n : ℕ) (o : OpLine) (a : Answer) → phase s n ≤ phase s m
+    → (IsTrue (is_open_to_change (state s A J (front s A J o.rank o.path n))) → IsTrue (is_open_to_change (state s A (J ++ m ∷ []) (front s A J o.rank o.path n))))
+    → Fits told s A J n o a → Fits told s A (J ++ m ∷ []) n o a
+Fits-push_from told s A J m n o a later writes fits =
+    let same = front-push s A J o.rank o.path n m later in
+    record {
+      opened = fits.opened;
+      version = IfSome-push s A J m n o (version_of a) later fits.version;
+      answer = subst (λ k. Answers (AreTold s told) (record (view_of s A (J ++ m ∷ []) n o) { front = k }) o.op a) (sym same)
+          (Answers-push (AreTold s told) (view_of s A J n o) (J ++ m ∷ []) (state s A (J ++ m ∷ [])) o.op a
+          (λ v k. entry-push J m v k) (version-state-push s A J m n o (version_of a) fits.version) writes fits.answer);
+    }
+
+-- a commit of no earlier phase, at the journal's end, leaves it fitting where its front was within the journal
+pub Fits-push : (told : List ℕ) (s : Job) (A : Answering) (J : List ℕ) (m n : ℕ) (o : OpLine) (a : Answer) → phase s n ≤ phase s m → front s A J o.rank o.path n ≤ length J
+    → Fits told s A J n o a → Fits told s A (J ++ m ∷ []) n o a
+Fits-push told s A J m n o a later within fits =
+    Fits-push_from told s A J m n o a later (λ may. subst (λ f. IsTrue (is_open_to_change f)) (sym (state_in-push s (bytes_of s) A J m (front s A J o.rank o.path n) within)) may) fits
+
+-- both at once
+pub Fits-grows : (told : List ℕ) (s : Job) (A B : Answering) (J : List ℕ) (m n : ℕ) (o : OpLine) (a : Answer) → AgreeBefore s o.rank o.path A B n → SamePending s A B J
+    → phase s n ≤ phase s m → front s A J o.rank o.path n ≤ length J → Fits told s A J n o a → Fits told s B (J ++ m ∷ []) n o a
+Fits-grows told s A B J m n o a h same later within fits =
+    Fits-push told s B J m n o a later (subst (λ k. k ≤ length J) (front-agree s A B J o.rank o.path n h) within) (Fits-agree told s A B J n o a h same fits)
+
+-- several commits, one after the other
+pub Fits-append : (told : List ℕ) (s : Job) (A : Answering) (J K : List ℕ) (n : ℕ) (o : OpLine) (a : Answer) → AllByRecursion (λ m. phase s n ≤ phase s m) K → front s A J o.rank o.path n ≤ length J
+    → Fits told s A J n o a → Fits told s A (J ++ K) n o a
+Fits-append told s A J [] n o a later within fits = subst (λ L. Fits told s A L n o a) (sym (append-nil J)) fits
+Fits-append told s A J (m ∷ K) n o a later within fits =
+    let same = front-push s A J o.rank o.path n m later.0 in
+    let size = length_push J m in
+    let pushed = Fits-push told s A J m n o a later.0 within fits in
+    subst (λ L. Fits told s A L n o a) (append_assoc J (m ∷ []) K) (Fits-append told s A (J ++ m ∷ []) K n o a later.1 (omega arith) pushed)
+
+-- ---- no operation takes a file away, so the front needn't be within the journal
+
+state-open-push : (s : Job) (A : Answering) (J : List ℕ) (m v : ℕ) → IsTrue (is_open_to_change (state s A J v)) → IsTrue (is_open_to_change (state s A (J ++ m ∷ []) v))
+state-open-push s A J m v h =
+    let c = bytes_of s in
+    state_in-open s c A (J ++ m ∷ []) v ∙ state_in-longer-keeps s c A J (m ∷ []) v (sym (state_in-open s c A J v) ∙ h)
+
+pub Fits-push_any : (told : List ℕ) (s : Job) (A : Answering) (J : List ℕ) (m n : ℕ) (o : OpLine) (a : Answer) → phase s n ≤ phase s m → Fits told s A J n o a → Fits told s A (J ++ m ∷ []) n o a
+Fits-push_any told s A J m n o a later fits = Fits-push_from told s A J m n o a later (state-open-push s A J m (front s A J o.rank o.path n)) fits

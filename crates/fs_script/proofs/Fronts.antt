@@ -1,0 +1,30 @@
+-- Phases rise with the lines, and a front doesn't change while the journal grows by lines of no earlier phase.
+use Rattle.std.proofs.Common.{◌≡◌, ℕ, ◌+◌, ◌-◌, ◌≤◌, List, [], ◌∷◌, ◌++◌, length, take, max, Bool, cond, nat_lt, count_by, ap, ◌∙◌, subst, le-ltb, take-take, arith}
+use Rattle.std.proofs.lemmas.List.Sums.{sum_by_push, sum_by-take-le, count_by-le-length}
+use Rattle.fs_script.specs.Job.{Job, is_barrier, phase}
+use Rattle.fs_script.specs.Pending.{Answering}
+use Rattle.fs_script.specs.Front.{seen, of_earlier_phases, front}
+use Rattle.fs_script.specs.Growth.{AgreeBefore}
+use Rattle.fs_script.proofs.Agreement.{seen-agree}
+
+-- a longer front has at least as many that pass
+count_by-take-rises : {X : Type 0} (p : X → Bool) (xs : List X) (a b : ℕ) → a ≤ b → count_by p (take a xs) ≤ count_by p (take b xs)
+count_by-take-rises p xs a b le = subst (λ ys. count_by p ys ≤ count_by p (take b xs)) (take-take a b xs le) (sum_by-take-le (λ x. cond (p x) 1 0) (take b xs) a)
+
+pub phase-rises : (s : Job) (m n : ℕ) → m ≤ n → phase s m ≤ phase s n
+phase-rises s m n le = count_by-take-rises is_barrier s.lines (m - 2) (n - 2) (omega arith)
+
+pub of_earlier_phases-le-length : (s : Job) (n : ℕ) (J : List ℕ) → of_earlier_phases s n J ≤ length J
+of_earlier_phases-le-length s n J = count_by-le-length (λ m. nat_lt (phase s m) (phase s n)) J
+
+-- a line of no earlier phase than n, put at the end, is none of the earlier phases
+pub of_earlier_phases-push : (s : Job) (n m : ℕ) (J : List ℕ) → phase s n ≤ phase s m → of_earlier_phases s n (J ++ m ∷ []) ≡ of_earlier_phases s n J
+of_earlier_phases-push s n m J le =
+    let e = le-ltb (phase s m) (phase s n) le in
+    sum_by_push (λ k. cond (nat_lt (phase s k) (phase s n)) 1 0) J m ∙ (ap (λ b. of_earlier_phases s n J + cond b 1 0) e ∙ omega arith)
+
+pub front-push : (s : Job) (A : Answering) (J : List ℕ) (r : ℕ) (p : List ℕ) (n m : ℕ) → phase s n ≤ phase s m → front s A (J ++ m ∷ []) r p n ≡ front s A J r p n
+front-push s A J r p n m le = ap (λ k. max (seen s A r p n) k) (of_earlier_phases-push s n m J le)
+
+pub front-agree : (s : Job) (A B : Answering) (J : List ℕ) (r : ℕ) (p : List ℕ) (n : ℕ) → AgreeBefore s r p A B n → front s A J r p n ≡ front s B J r p n
+front-agree s A B J r p n h = ap (λ k. max k (of_earlier_phases s n J)) (seen-agree s r p A B n h)

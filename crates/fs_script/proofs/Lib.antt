@@ -1,0 +1,11 @@
+pub mod FiveLines
+pub mod Agreement
+pub mod States
+pub mod Fronts
+pub mod FitsGrows
+pub mod JournalGrows
+pub mod InReach
+pub mod Refused
+pub mod Cases
+pub mod SoFar
+pub mod Finished

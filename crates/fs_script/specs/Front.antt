@@ -1,0 +1,54 @@
+-- What a line must know of: the versions that its client has seen, and the commits of earlier phases.
+use Rattle.std.specs.Prelude.{ℕ, zero, suc, Bool, true, false, ◌||◌, max, nat_lt, count_by, List, Option, Some, None}
+use Rattle.fs_types.specs.declared.answer.Answer.{Answer}
+use Rattle.fs_types.specs.declared.answer.Answer.TheVariants as answers
+use Rattle.fs_script.specs.declared.line.Op.{Op}
+use Rattle.fs_script.specs.declared.line.Op.TheVariants as ops
+use Rattle.fs_script.specs.Job.{Job, own_at, phase}
+use Rattle.fs_script.specs.Pending.{Answering}
+
+-- the version that an answer prints
+abbrev pub version_of : Answer → Option ℕ
+version_of (answers.Done v) = Some v
+version_of (answers.Wrote slots) = None
+version_of (answers.Shown v n body) = Some v
+version_of answers.BadF = None
+version_of (answers.Exists v) = Some v
+version_of (answers.NoEnt v) = Some v
+version_of answers.TooBig = None
+
+abbrev pub at_least : ℕ → Option ℕ → ℕ
+at_least m None = m
+at_least m (Some v) = max m v
+
+abbrev pub seen_after : Option Op → Option Answer → ℕ → ℕ
+seen_after None a m = m
+seen_after (Some op) None m = m
+seen_after (Some op) (Some a) m = at_least m (version_of a)
+
+-- the greatest version in the answers before line n to client r on path p, 0 where there is none
+abbrev pub seen : Job → Answering → ℕ → List ℕ → ℕ → ℕ
+seen s A r p zero = 0
+seen s A r p (suc n) = seen_after (own_at s r p n) (A n) (seen s A r p n)
+
+-- how many lines of a journal are of an earlier phase than line n
+abbrev pub of_earlier_phases : Job → ℕ → List ℕ → ℕ
+of_earlier_phases s n J = count_by (λ m. nat_lt (phase s m) (phase s n)) J
+
+-- the least version that line n of client r on path p may print
+abbrev pub front : Job → Answering → List ℕ → ℕ → List ℕ → ℕ → ℕ
+front s A J r p n = max (seen s A r p n) (of_earlier_phases s n J)
+
+abbrev pub opens : Op → Answer → Bool
+opens ops.Create (answers.Done v) = true
+opens op a = false
+
+abbrev pub open_after : Option Op → Option Answer → Bool → Bool
+open_after None a b = b
+open_after (Some op) None b = b
+open_after (Some op) (Some a) b = opens op a || b
+
+-- whether client r has opened path p before line n
+abbrev pub is_open : Job → Answering → ℕ → List ℕ → ℕ → Bool
+is_open s A r p zero = false
+is_open s A r p (suc n) = open_after (own_at s r p n) (A n) (is_open s A r p n)

@@ -1,0 +1,15 @@
+pub mod TextBytes
+pub mod Job
+pub mod Payload
+pub mod Pending
+pub mod Effect
+pub mod Front
+pub mod Fits
+pub mod Journal
+pub mod Report
+pub mod Text
+pub mod Grammar
+pub mod Reading
+pub mod Growth
+pub mod SoFar
+pub mod Laws

@@ -1,0 +1,47 @@
+-- Pending writes: what a client wrote to a path and hasn't yet committed.
+use Rattle.std.specs.Prelude.{ℕ, zero, suc, ◌==◌, Bool, true, false, List, [], ◌∷◌, ◌++◌, length, Option, Some, None, if◌then◌else◌}
+use Rattle.fs_types.specs.declared.answer.Answer.{Answer}
+use Rattle.fs_types.specs.declared.answer.Answer.TheVariants as answers
+use Rattle.fs_script.specs.declared.line.OpLine.{OpLine}
+use Rattle.fs_script.specs.declared.line.Op.{Op}
+use Rattle.fs_script.specs.declared.line.Op.TheVariants as ops
+use Rattle.fs_script.specs.Job.{Job, op_at, own_at}
+use Rattle.fs_script.specs.Payload.{data_bytes}
+
+-- answers by line
+abbrev pub Answering : Type 0
+Answering = ℕ → Option Answer
+
+-- whether a sync with this answer leaves nothing pending
+abbrev pub empties : Answer → Bool
+empties answers.BadF = false
+empties answers.TooBig = false
+empties (answers.Done v) = true
+empties (answers.Wrote slots) = true
+empties (answers.Shown v n body) = true
+empties (answers.Exists v) = true
+empties (answers.NoEnt v) = true
+
+-- what is pending after line n was answered: an accepted write that brings bytes comes last
+abbrev pub after_answer : Op → Answer → ℕ → List ℕ → List ℕ
+after_answer (ops.Write off text) (answers.Wrote slots) n q = if length (data_bytes text) == 0 then q else q ++ n ∷ []
+after_answer ops.Sync a n q = if empties a then [] else q
+after_answer op a n q = q
+
+abbrev pub after : Option Op → Option Answer → ℕ → List ℕ → List ℕ
+after None a n q = q
+after (Some op) None n q = q
+after (Some op) (Some a) n q = after_answer op a n q
+
+-- the lines before line n whose writes are pending for client r on path p, in order
+abbrev pub pending : Job → Answering → ℕ → List ℕ → ℕ → List ℕ
+pending s A r p zero = []
+pending s A r p (suc n) = after (own_at s r p n) (A n) n (pending s A r p n)
+
+abbrev pub pending_for : Job → Answering → ℕ → Option OpLine → List ℕ
+pending_for s A n None = []
+pending_for s A n (Some o) = pending s A o.rank o.path n
+
+-- what is pending at line n, for its own client on its own path
+abbrev pub pending_at : Job → Answering → ℕ → List ℕ
+pending_at s A n = pending_for s A n (op_at s n)

@@ -1,0 +1,76 @@
+-- Reports, and which of them are legal for a job.
+use Rattle.std.specs.Prelude.{◌≡◌, ℕ, true, List, [], ◌∷◌, length, take, map, Some, None, if◌then◌else◌}
+use Rattle.std.specs.List.{AllByRecursion, Contains}
+use Rattle.std.specs.Str.{bytes_eq}
+use Rattle.std.specs.Ordering.{nat_cmp, is_lt}
+use Rattle.std.specs.Cmp.Lexicographic.{slice_cmp}
+use Rattle.md5.specs.Md5.{md5}
+use Rattle.fs_types.specs.declared.answer.Answer.{Answer}
+use Rattle.fs_types.specs.declared.file_state.FileState.{FileState}
+use Rattle.fs_types.specs.declared.file_state.FileState.TheVariants as states
+use Rattle.fs_types.specs.Answers.{answer_at}
+use Rattle.fs_types.specs.PlainFile.{File}
+use Rattle.fs_script.specs.declared.line.OpLine.{OpLine}
+use Rattle.fs_script.specs.Job.{Job, op_at, op_lines, Names}
+use Rattle.fs_script.specs.Pending.{Answering}
+use Rattle.fs_script.specs.Effect.{state}
+use Rattle.fs_script.specs.Fits.{Fits}
+use Rattle.fs_script.specs.Journal.{IsLegalJournal}
+
+-- what a job reports: the answers by line, and by path the journals and the files
+pub record Report : Type 0 where
+  pub answers : List (ℕ × Answer)
+  pub journals : List (List ℕ × List ℕ)
+  pub files : List (List ℕ × FileState)
+
+-- the journal of a path, empty where there is none
+abbrev pub journal_of : List (List ℕ × List ℕ) → List ℕ → List ℕ
+journal_of [] p = []
+journal_of (j ∷ js) p = if bytes_eq j.0 p then j.1 else journal_of js p
+
+-- the paths rise in byte order
+abbrev pub AreRising : List (List ℕ) → Type 0
+AreRising [] = Unit {0}
+AreRising (p ∷ ps) = AllByRecursion (λ q. is_lt (slice_cmp nat_cmp p q) ≡ true) ps × AreRising ps
+
+-- these are the paths that the script names, in byte order
+pub record ArePaths (s : Job) (ps : List (List ℕ)) : Type 0 where
+  pub rising : AreRising ps
+  pub named : (p : List ℕ) → Contains ps p → Names s p
+  pub each : (p : List ℕ) → Names s p → Contains ps p
+
+-- one answer for each operation, and one journal and one file for each path that the script names
+pub record HasShape (s : Job) (R : Report) : Type 0 where
+  pub answers : map (λ a. a.0) R.answers ≡ op_lines s
+  pub journals : ArePaths s (map (λ j. j.0) R.journals)
+  pub files : map (λ f. f.0) R.files ≡ map (λ j. j.0) R.journals
+
+-- how many bytes of a file its digest is of, at most
+abbrev pub digest_limit : ℕ
+digest_limit = 16777216
+
+-- how a report shows a file
+abbrev pub file_state_of : File ℕ → FileState
+file_state_of None = states.Gone
+file_state_of (Some f) = states.Whole (length f.cells) f.frozen (md5 (take digest_limit f.cells))
+
+-- the answers of a report as a function from lines
+abbrev pub answering : Report → Answering
+answering R = answer_at R.answers
+
+-- each file is the state of its path at the end of its journal
+abbrev pub FilesAreStates : Job → Report → Type 0
+FilesAreStates s R = AllByRecursion (λ f. f.1 ≡ file_state_of (state s (answering R) (journal_of R.journals f.0) (length (journal_of R.journals f.0)))) R.files
+
+-- the answer to line n is there, and fits the journal of its path
+pub record IsAnswered (told : List ℕ) (s : Job) (R : Report) (n : ℕ) (o : OpLine) : Type 0 where
+  pub answer : Answer
+  pub given : answering R n ≡ Some answer
+  pub fits : Fits told s (answering R) (journal_of R.journals o.path) n o answer
+
+-- a legal report of a job; told are the clients whose devices tell their bytes
+pub record IsLegal (s : Job) (R : Report) (told : List ℕ) : Type 0 where
+  pub shape : HasShape s R
+  pub journals : (p : List ℕ) → IsLegalJournal s (answering R) p (journal_of R.journals p)
+  pub lines : (n : ℕ) (o : OpLine) → op_at s n ≡ Some o → IsAnswered told s R n o
+  pub files : FilesAreStates s R

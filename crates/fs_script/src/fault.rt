@@ -1,0 +1,43 @@
+//! Why bytes are no script.
+
+ghost use Rattle.std.specs.Prelude.{◌≡◌};
+ghost use Rattle.fs_script.specs.declared.fault.ScriptFault.TheVariants.{Want};
+
+use fs_types::LineNo;
+use std::alloc::{AllocError, AllocFailed};
+
+/// What is wrong with a line.
+#[derive(Clone, Copy, Debug, PartialEq, Eq)]
+pub enum Reason {
+    /// It has none of the forms of operations.
+    Op,
+}
+
+/// The first fault of bytes that are no script, or want of memory.
+#[derive(Clone, Copy, Debug, PartialEq, Eq)]
+pub enum ScriptFault {
+    /// The first line is no header of a job.
+    BadHeader,
+    /// The first line after the header that is none of a script.
+    BadLine { line: LineNo, reason: Reason },
+    /// There are more than 4,194,304 bytes, or more than 65,536 lines.
+    TooLong,
+    /// Memory ran out.
+    Want,
+}
+
+impl From<AllocError> for ScriptFault {
+    ghost from_gives = { λ _ e. e ≡ Want };
+
+    fn from(_e: AllocError) -> ScriptFault {
+        ScriptFault::Want
+    }
+}
+
+impl<T: Drop> From<AllocFailed<T>> for ScriptFault {
+    ghost from_gives = { λ _ e. e ≡ Want };
+
+    fn from(_e: AllocFailed<T>) -> ScriptFault {
+        ScriptFault::Want
+    }
+}

@@ -1,0 +1,24 @@
+//! A job is legal so far at each step, and its report is legal at the end.
+
+ghost use Rattle.fs_script.specs.Laws.{NothingIsLegal, AnswersKeepJobsLegal, CommitsKeepJobsLegal, FinishedJobsAreLegal};
+
+/// Before any answer, with empty journals.
+pub fn nothing_is_legal()
+    ensures { NothingIsLegal }
+{}
+
+/// As an answer comes that commits nothing and fits.
+pub fn answers_keep_jobs_legal()
+    ensures { AnswersKeepJobsLegal }
+{}
+
+/// As an answer comes that commits its line, which is enabled, and that fits in the journal with
+/// the line at its end.
+pub fn commits_keep_jobs_legal()
+    ensures { CommitsKeepJobsLegal }
+{}
+
+/// With an answer to each operation, and each file as its journal leaves it.
+pub fn finished_jobs_are_legal()
+    ensures { FinishedJobsAreLegal }
+{}

@@ -1,0 +1,42 @@
+-- The definitions at single values.
+use Rattle.std.proofs.Common.{◌≡◌, true, false, [], ◌∷◌, Some, None, codes, refl}
+use Rattle.fs_types.specs.Answers.{answer_at, put_answer}
+use Rattle.fs_types.specs.NameText.{is_name}
+use Rattle.fs_types.specs.PathText.{is_path}
+use Rattle.fs_types.specs.declared.answer.Answer.TheVariants.{BadF, TooBig}
+
+path_of_one_component : is_path (codes "/unifyfs/a") ≡ true
+path_of_one_component = refl
+
+path_of_all_characters : is_path (codes "/unifyfs/a.b/C_9-/...") ≡ true
+path_of_all_characters = refl
+
+no_parent : is_path (codes "/unifyfs/a/../b") ≡ false
+no_parent = refl
+
+no_empty_component : is_path (codes "/unifyfs//a") ≡ false
+no_empty_component = refl
+
+no_path_of_the_mount_point : is_path (codes "/unifyfs/") ≡ false
+no_path_of_the_mount_point = refl
+
+name_with_slashes : is_name (codes "../dir//x-y") ≡ true
+name_with_slashes = refl
+
+no_option : is_name (codes "-in") ≡ false
+no_option = refl
+
+put_in_the_middle : put_answer 3 TooBig ((2, BadF) ∷ (4, BadF) ∷ []) ≡ (2, BadF) ∷ (3, TooBig) ∷ (4, BadF) ∷ []
+put_in_the_middle = refl
+
+put_at_the_end : put_answer 5 TooBig ((2, BadF) ∷ (4, BadF) ∷ []) ≡ (2, BadF) ∷ (4, BadF) ∷ (5, TooBig) ∷ []
+put_at_the_end = refl
+
+put_over : put_answer 2 TooBig ((2, BadF) ∷ (4, BadF) ∷ []) ≡ (2, TooBig) ∷ (4, BadF) ∷ []
+put_over = refl
+
+found : answer_at ((2, BadF) ∷ (4, TooBig) ∷ []) 4 ≡ Some TooBig
+found = refl
+
+not_found : answer_at ((2, BadF) ∷ (4, TooBig) ∷ []) 3 ≡ None
+not_found = refl

@@ -1,0 +1,5 @@
+pub mod Tables
+pub mod Overwrites
+pub mod AnswerOrder
+pub mod Grammar
+mod Cases

@@ -1,0 +1,7 @@
+use Rattle.std.proofs.Common.{arith}
+use Rattle.std.proofs.lemmas.Grind.{common_steps}
+use Rattle.fs_types.proofs.Tables.{listed-push_none}
+use Rattle.fs_types.proofs.answers.empty_table.Goals as goal
+
+pub loop-preserved : goal.loop-preserved
+loop-preserved c = grind (arith, common_steps, listed-push_none)

@@ -1,0 +1,9 @@
+pub mod Status
+pub mod PathText
+pub mod NameText
+pub mod Overwrite
+pub mod PlainFile
+pub mod Marks
+pub mod PathLaws
+pub mod Answers
+pub mod AnswerLaws

@@ -1,0 +1,12 @@
+//! What a report says of a file after the job.
+
+use crate::digest::Digest16;
+
+/// A file at the end of a job.
+#[derive(Debug, Drop)]
+pub enum FileState {
+    /// There is none.
+    Gone,
+    /// Its length, whether it is frozen, and the digest of its first 16,777,216 bytes.
+    Whole { n: u64, frozen: bool, md5: Digest16 },
+}

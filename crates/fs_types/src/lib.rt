@@ -1,0 +1,32 @@
+//! The names and plain data that every layer of the file system speaks of: ranks, lines, versions,
+//! paths, answers and statuses. It touches nothing outside memory.
+#![tactic(auto)]
+
+mod answer;
+mod answers;
+mod digest;
+mod file_state;
+mod laws;
+mod name;
+mod number;
+mod path;
+mod piece;
+mod short_bytes;
+mod status;
+mod want;
+
+pub use answer::{Answer, Body};
+pub use answers::Answers;
+pub use digest::Digest16;
+pub use file_state::FileState;
+pub use laws::{answers_are_a_table, names_are_visible_texts, paths_are_mounted_texts};
+pub use name::{Name, NameFault};
+pub use number::{LineNo, Rank, Version};
+pub use path::{Path, PathFault};
+pub use piece::{Frag, PieceId};
+pub use short_bytes::ShortBytes;
+pub use status::Status;
+pub use want::Want;
+
+#[cfg(test)]
+mod tests;
