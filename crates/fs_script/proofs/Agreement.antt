@@ -1,9 +1,12 @@
 -- What the answers before a line decide: its client's pending writes, the version it has seen, and whether its path is open.
 -- Answers that agree at that client's lines on that path before the line give the same.
-use Rattle.std.proofs.Common.{◌≡◌, ℕ, zero, suc, ◌≤◌, List, Option, Some, None, IsSome, Bool, bytes_eq, cond, refl, sym, ap, ◌∙◌, arith}
+use Rattle.std.proofs.Common.{◌≡◌, ℕ, zero, suc, ◌≤◌, List, Option, Some, None, IsSome, Bool, bytes_eq, cond, refl, ap, ◌∙◌, arith}
 use Rattle.std.proofs.lemmas.Bool.{cond_both}
+use Rattle.std.proofs.lemmas.Bool.Decides.{nat_tests}
 use Rattle.fs_types.specs.declared.answer.Answer.{Answer}
+use Rattle.fs_types.specs.Answers.{answer_at, put_answer}
 use Rattle.fs_types.specs.PlainFile.{File}
+use Rattle.fs_types.proofs.AnswerOrder.{answer_at-put_answer}
 use Rattle.fs_script.specs.declared.line.Op.{Op}
 use Rattle.fs_script.specs.declared.line.OpLine.{OpLine}
 use Rattle.fs_script.specs.Job.{Job, op_at, own_at}
@@ -12,7 +15,7 @@ use Rattle.fs_script.specs.Pending.{Answering, after, pending, pending_for, pend
 use Rattle.fs_script.specs.Effect.{effect_in, effect}
 use Rattle.fs_script.specs.Front.{seen_after, seen, open_after, is_open}
 use Rattle.fs_script.specs.Journal.{commit_by, commit_in, committed}
-use Rattle.fs_script.specs.Growth.{AgreeBefore}
+use Rattle.fs_script.specs.Growth.{AgreeBefore, AddsAnswer}
 
 -- agreement before a line is agreement before each earlier one
 pub AgreeBefore-earlier : (s : Job) (r : ℕ) (p : List ℕ) (A B : Answering) (m n : ℕ) → m ≤ n → AgreeBefore s r p A B n → AgreeBefore s r p A B m
@@ -51,10 +54,6 @@ is_open-agree s r p A B (suc n) h =
     open_after-agree (own_at s r p n) (A n) (B n) (is_open s A r p n) (λ own. h n (omega arith) own)
     ∙ ap (λ t. open_after (own_at s r p n) (B n) t) (is_open-agree s r p A B n (AgreeBefore-less s r p A B n h))
 
--- what is pending at a line, from agreement at its own client's lines on its own path
-pub pending_at-agree : (s : Job) (A B : Answering) (n : ℕ) (o : OpLine) → op_at s n ≡ Some o → AgreeBefore s o.rank o.path A B n → pending_at s A n ≡ pending_at s B n
-pending_at-agree s A B n o is h = ap (pending_for s A n) is ∙ pending-agree s o.rank o.path A B n h ∙ sym (ap (pending_for s B n) is)
-
 -- the effect of a line reads no answer but for what is pending at it
 pub effect-agree : {X : Type 0} (s : Job) (c : Cells X) (A B : Answering) (n : ℕ) (f : File X) → pending_at s A n ≡ pending_at s B n → effect s c A n f ≡ effect s c B n f
 effect-agree s c A B n f h = ap (λ q. effect_in s c (op_at s n) q f) h
@@ -75,3 +74,10 @@ commit_in-unanswered s A p n (Some o) e = cond_both (bytes_eq o.path p) (commit_
 -- a line without an answer commits nothing
 pub committed-unanswered : (s : Job) (A : Answering) (p : List ℕ) (n : ℕ) → A n ≡ None → committed s A p n ≡ None
 committed-unanswered s A p n e = commit_in-unanswered s A p n (op_at s n) e
+
+-- an answer that is put is the only one that comes
+pub AddsAnswer-put : (xs : List (ℕ × Answer)) (n : ℕ) (a : Answer) → AddsAnswer (answer_at xs) n a (answer_at (put_answer n a xs))
+AddsAnswer-put xs n a = record {
+  added = answer_at-put_answer xs n n a ∙ grind (arith, nat_tests);
+  others = λ k other. answer_at-put_answer xs n k a ∙ grind (arith, nat_tests);
+}

@@ -150,6 +150,3 @@ state-open-push : (s : Job) (A : Answering) (J : List ℕ) (m v : ℕ) → IsTru
 state-open-push s A J m v h =
     let c = bytes_of s in
     state_in-open s c A (J ++ m ∷ []) v ∙ state_in-longer-keeps s c A J (m ∷ []) v (sym (state_in-open s c A J v) ∙ h)
-
-pub Fits-push_any : (told : List ℕ) (s : Job) (A : Answering) (J : List ℕ) (m n : ℕ) (o : OpLine) (a : Answer) → phase s n ≤ phase s m → Fits told s A J n o a → Fits told s A (J ++ m ∷ []) n o a
-Fits-push_any told s A J m n o a later fits = Fits-push_from told s A J m n o a later (state-open-push s A J m (front s A J o.rank o.path n)) fits

@@ -54,15 +54,6 @@ le-at_least : (m : ℕ) (v : Option ℕ) → m ≤ at_least m v
 le-at_least m None = omega arith
 le-at_least m (Some v) = omega arith
 
-le-seen_after : (o : Option Op) (a : Option Answer) (m : ℕ) → m ≤ seen_after o a m
-le-seen_after None a m = omega arith
-le-seen_after (Some op) None m = omega arith
-le-seen_after (Some op) (Some a) m = le-at_least m (version_of a)
-
--- what a client has seen doesn't fall
-pub seen-rises : (s : Job) (A : Answering) (r : ℕ) (p : List ℕ) (n : ℕ) → seen s A r p n ≤ seen s A r p (suc n)
-seen-rises s A r p n = le-seen_after (own_at s r p n) (A n) (seen s A r p n)
-
 opens-seen : (op : Op) (a : Answer) (m : ℕ) → ((v : ℕ) → op ≡ ops.Create → a ≡ answers.Done v → 1 ≤ v) → opens op a ≡ true → 1 ≤ at_least m (version_of a)
 opens-seen ops.Create (answers.Done v) m each h = let here = each v refl refl in omega arith
 opens-seen op a m each h = absurd (true≢false (sym h))

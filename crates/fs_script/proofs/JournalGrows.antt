@@ -50,9 +50,12 @@ pending_for-answered s A B m (Some o) h = pending-agree s o.rank o.path A B m (h
 pub pending_at-answered : (s : Job) (A B : Answering) (m n : ℕ) (a b : Answer) → AddsAnswer A n a B → ComesNext s A n → A m ≡ Some b → pending_at s A m ≡ pending_at s B m
 pending_at-answered s A B m n a b adds next answered = pending_for-answered s A B m (op_at s m) (λ r p of_rank. AgreeBefore-answered s p A B m n a b r adds next answered of_rank)
 
--- what was pending at the new line stays so
+-- what was pending at a line up to the new one stays so
+pub pending_at-until : (s : Job) (A B : Answering) (m n : ℕ) (a : Answer) → AddsAnswer A n a B → m ≤ n → pending_at s A m ≡ pending_at s B m
+pending_at-until s A B m n a adds upto = pending_for-answered s A B m (op_at s m) (λ r p of_rank. AgreeBefore-next s r p A B m n a adds upto)
+
 pub pending_at-next : (s : Job) (A B : Answering) (n : ℕ) (a : Answer) → AddsAnswer A n a B → pending_at s A n ≡ pending_at s B n
-pending_at-next s A B n a adds = pending_for-answered s A B n (op_at s n) (λ r p of_rank. AgreeBefore-next s r p A B n n a adds (omega arith))
+pending_at-next s A B n a adds = pending_at-until s A B n n a adds (omega arith)
 
 -- what a line that was answered committed stays so
 pub committed-answered : (s : Job) (A B : Answering) (p : List ℕ) (m n : ℕ) (a b : Answer) → AddsAnswer A n a B → ComesNext s A n → A m ≡ Some b → committed s A p m ≡ committed s B p m
@@ -86,9 +89,6 @@ pub AllByRecursion-at : (P : ℕ → Type 0) (J : List ℕ) (k m : ℕ) → AllB
 AllByRecursion-at P [] k m h at = absurd (none-some m at)
 AllByRecursion-at P (x ∷ J) zero m h at = subst P (same_Some x m at) h.0
 AllByRecursion-at P (x ∷ J) (suc k) m h at = AllByRecursion-at P J k m h.1 at
-
-pub all-answered-in_journal : (s : Job) (A : Answering) (p : List ℕ) (J : List ℕ) → IsLegalJournal s A p J → AllByRecursion (λ m. IsSome (A m)) J
-all-answered-in_journal s A p J legal = AllByRecursion-from_get (λ m. IsSome (A m)) J (λ k m at. answered-in_journal s A p J k m legal at)
 
 pub some_of : {X : Type 0} (x : Option X) → IsSome x → (b : X) × (x ≡ Some b)
 some_of None h = absurd (true≢false (sym h))
@@ -139,7 +139,8 @@ slice_get-push_cases (x ∷ J) n zero m at = inl at
 slice_get-push_cases (x ∷ J) n (suc k) m at =
     elim (slice_get-push_cases J n k m at) [ inl old ↦ inl old | inr new ↦ inr (ap suc new.0, new.1) ]
 
-slice_get-push_last : (J : List ℕ) (n : ℕ) → slice_get (J ++ n ∷ []) (length J) ≡ Some n
+-- the new one stands at the end
+pub slice_get-push_last : (J : List ℕ) (n : ℕ) → slice_get (J ++ n ∷ []) (length J) ≡ Some n
 slice_get-push_last [] n = refl
 slice_get-push_last (x ∷ J) n = slice_get-push_last J n
 

@@ -1,4 +1,10 @@
 pub mod FiveLines
+pub mod Number
+pub mod Lines
+pub mod WordLists
+pub mod LineAt
+pub mod Reading
+pub mod ReadingCases
 pub mod Agreement
 pub mod States
 pub mod Fronts
@@ -7,5 +13,12 @@ pub mod JournalGrows
 pub mod InReach
 pub mod Refused
 pub mod Cases
+pub mod Jobs
+pub mod Programs
+pub mod AnsweredLines
 pub mod SoFar
 pub mod Finished
+pub mod TextParts
+pub mod TextReader
+pub mod TextRead
+mod TextCases

@@ -3,18 +3,23 @@ use Rattle.std.proofs.Common.{◌≡◌, ℕ, zero, suc, ◌≤◌, false, List,
 use Rattle.std.specs.List.{AllByRecursion}
 use Rattle.std.proofs.lemmas.Bool.{cond_both}
 use Rattle.std.proofs.lemmas.List.{take-append-le, length_push}
-use Rattle.fs_types.specs.PlainFile.{File, is_open_to_change}
+use Rattle.fs_types.specs.PlainFile.{File, written, is_open_to_change}
 use Rattle.fs_script.specs.declared.line.OpLine.{OpLine}
 use Rattle.fs_script.specs.declared.line.Op.{Op}
 use Rattle.fs_script.specs.declared.line.Op.TheVariants as ops
 use Rattle.fs_script.specs.Job.{Job, op_at}
-use Rattle.fs_script.specs.Payload.{Cells}
+use Rattle.fs_script.specs.Payload.{Cells, offset}
 use Rattle.fs_script.specs.Pending.{Answering, pending_at}
 use Rattle.fs_script.specs.Effect.{put_lines, effect_of, effect_in, effect, after_all, state_in}
 use Rattle.fs_script.specs.Growth.{SamePending}
 use Rattle.fs_script.proofs.Agreement.{effect-agree}
 
 -- ---- the journal grows
+
+-- putting the lines of two lists is putting one after the other
+pub put_lines-append : {X : Type 0} (s : Job) (c : Cells X) (ns ms : List ℕ) (xs : List X) → put_lines s c (ns ++ ms) xs ≡ put_lines s c ms (put_lines s c ns xs)
+put_lines-append s c [] ms xs = refl
+put_lines-append s c (n ∷ ns) ms xs = put_lines-append s c ns ms (written c.blank xs (offset s n) (c.of_line n))
 
 pub after_all-append : {X : Type 0} (s : Job) (c : Cells X) (A : Answering) (J K : List ℕ) (f : File X) → after_all s c A (J ++ K) f ≡ after_all s c A K (after_all s c A J f)
 after_all-append s c A [] K f = refl

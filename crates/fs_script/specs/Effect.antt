@@ -1,6 +1,6 @@
 -- What a committing line does to a file, and the file after some lines of a journal.
 use Rattle.std.specs.Prelude.{ℕ, Bool, false, not, is_some, List, [], ◌∷◌, take, Option, Some, None, if◌then◌else◌}
-use Rattle.fs_types.specs.PlainFile.{Content, File, written, is_open_to_change}
+use Rattle.fs_types.specs.PlainFile.{File, written, is_open_to_change}
 use Rattle.fs_script.specs.declared.line.OpLine.{OpLine}
 use Rattle.fs_script.specs.declared.line.Op.{Op}
 use Rattle.fs_script.specs.declared.line.Op.TheVariants as ops

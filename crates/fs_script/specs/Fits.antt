@@ -1,5 +1,5 @@
 -- Which answer a line may have, for a journal of its path: the table of answers.
-use Rattle.std.specs.Prelude.{◌≡◌, ℕ, zero, suc, ◌+◌, ◌≤◌, ◌<◌, nat_le, Bool, true, false, IsTrue, List, [], ◌∷◌, length, take, Option, Some, None, IsSome, IsNone, IfSome, IsSomeAnd, ◌==◌, ◌⊎◌, MatchBool, if◌then◌else◌}
+use Rattle.std.specs.Prelude.{◌≡◌, ℕ, zero, suc, ◌+◌, ◌≤◌, ◌<◌, nat_le, Bool, true, false, IsTrue, List, length, take, Option, Some, None, IsSome, IsNone, IfSome, IsSomeAnd, ◌==◌, ◌⊎◌, MatchBool, if◌then◌else◌}
 use Rattle.std.specs.List.{slice_get, AllByRecursion, Contains}
 use Rattle.md5.specs.Md5.{md5}
 use Rattle.fs_types.specs.declared.answer.Answer.{Answer}
@@ -7,7 +7,7 @@ use Rattle.fs_types.specs.declared.answer.Answer.TheVariants as answers
 use Rattle.fs_types.specs.declared.answer.Body.{Body}
 use Rattle.fs_types.specs.declared.answer.Body.TheVariants as bodies
 use Rattle.fs_types.specs.Overwrite.{shown}
-use Rattle.fs_types.specs.PlainFile.{Content, File, longest_file, is_open_to_change}
+use Rattle.fs_types.specs.PlainFile.{File, longest_file, is_open_to_change}
 use Rattle.fs_script.specs.declared.line.OpLine.{OpLine}
 use Rattle.fs_script.specs.declared.line.Op.{Op}
 use Rattle.fs_script.specs.declared.line.Op.TheVariants as ops

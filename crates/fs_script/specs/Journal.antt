@@ -1,5 +1,5 @@
 -- Legal journals: each accepted committing line of a path once, in an order that its clients could have seen.
-use Rattle.std.specs.Prelude.{◌≡◌, ℕ, suc, ◌<◌, ◌≤◌, Bool, true, List, [], ◌∷◌, Option, Some, None, if◌then◌else◌}
+use Rattle.std.specs.Prelude.{◌≡◌, ℕ, suc, ◌<◌, ◌≤◌, Bool, true, List, ◌∷◌, Option, Some, None, if◌then◌else◌}
 use Rattle.std.specs.List.{slice_get, Contains}
 use Rattle.std.specs.Str.{bytes_eq}
 use Rattle.fs_types.specs.declared.answer.Answer.{Answer}
@@ -9,7 +9,7 @@ use Rattle.fs_script.specs.declared.line.Op.{Op}
 use Rattle.fs_script.specs.declared.line.Op.TheVariants as ops
 use Rattle.fs_script.specs.Job.{Job, op_at, rank_at, phase}
 use Rattle.fs_script.specs.Pending.{Answering, pending}
-use Rattle.fs_script.specs.Effect.{effect, is_enabled, state}
+use Rattle.fs_script.specs.Effect.{is_enabled, state}
 
 -- the version of a committing operation that was accepted, with these lines pending: a create, or a sync of something
 abbrev pub commit_of : Op → List ℕ → Answer → Option ℕ

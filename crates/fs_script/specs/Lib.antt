@@ -8,8 +8,10 @@ pub mod Fits
 pub mod Journal
 pub mod Report
 pub mod Text
+pub mod Printable
 pub mod Grammar
 pub mod Reading
 pub mod Growth
+pub mod Outcome
 pub mod SoFar
 pub mod Laws

@@ -27,6 +27,17 @@ payload_in (Some o) = brought o.op
 abbrev pub payload : Job → ℕ → List ℕ
 payload s n = payload_in (op_at s n)
 
+abbrev pub Writes : Op → Type 0
+Writes (ops.Write off text) = Unit {0}
+Writes ops.Create = ⊥
+Writes ops.Sync = ⊥
+Writes (ops.Read off len) = ⊥
+
+-- a line's operation is a write
+abbrev pub IsWrite : Option OpLine → Type 0
+IsWrite None = ⊥
+IsWrite (Some o) = Writes o.op
+
 abbrev pub place_of : Op → ℕ
 place_of (ops.Write off text) = off
 place_of ops.Create = 0
@@ -44,10 +55,6 @@ offset s n = offset_in (op_at s n)
 -- how many parts of chunk bytes hold len bytes, the last one perhaps shorter
 abbrev pub parts_of : ℕ → ℕ → ℕ
 parts_of chunk len = div_ceil len chunk
-
--- how many slots line n fills
-abbrev pub need : Job → ℕ → ℕ
-need s n = parts_of s.shape.chunk (length (payload s n))
 
 -- part p of what line n writes
 abbrev pub part : Job → ℕ → ℕ → List ℕ

@@ -1,5 +1,5 @@
 -- Reading a script from left to right, up to the first fault: what bytes outside the grammar are answered.
-use Rattle.std.specs.Prelude.{ℕ, ◌+◌, ◌*◌, ◌%◌, ◌^◌, ◌==◌, Bool, true, false, ◌&&◌, ◌||◌, not, nat_lt, nat_le, List, [], ◌∷◌, length, drop, codes, nat_eq, Option, Some, None, Result, Ok, Err, slice_index, if◌then◌else◌}
+use Rattle.std.specs.Prelude.{ℕ, ◌+◌, ◌*◌, ◌%◌, ◌^◌, ◌==◌, Bool, ◌&&◌, ◌||◌, not, nat_lt, nat_le, List, [], ◌∷◌, length, drop, codes, nat_eq, Option, Some, None, Result, Ok, Err, slice_index, if◌then◌else◌}
 use Rattle.std.specs.List.{slice_split, list_all, starts_with}
 use Rattle.std.specs.Str.{bytes_eq, all_ascii_digits}
 use Rattle.std.specs.Str.Parse.{digits_value}
@@ -8,7 +8,6 @@ use Rattle.fs_script.specs.TextBytes.{is_text_byte}
 use Rattle.fs_script.specs.declared.shape.Shape.{Shape}
 use Rattle.fs_script.specs.declared.line.Line.{Line}
 use Rattle.fs_script.specs.declared.line.Line.TheVariants as lines
-use Rattle.fs_script.specs.declared.line.OpLine.{OpLine}
 use Rattle.fs_script.specs.declared.line.Op.{Op}
 use Rattle.fs_script.specs.declared.line.Op.TheVariants as ops
 use Rattle.fs_script.specs.declared.line.Data.{Data}
@@ -113,9 +112,14 @@ op_line_of h r p op = do
   o ← op
   Some (lines.Op (record { rank = rank; path = path; op = o }))
 
+-- what a client does, from the word for it and the words after the path
+abbrev pub op_of_words : List ℕ → List (List ℕ) → Option Op
+op_of_words kind [] = op_without_numbers kind
+op_of_words kind (a ∷ b ∷ []) = op_with_numbers kind a b
+op_of_words kind words = None
+
 abbrev pub line_of_words : Shape → List (List ℕ) → Option Line
-line_of_words h (r ∷ kind ∷ p ∷ []) = op_line_of h r p (op_without_numbers kind)
-line_of_words h (r ∷ kind ∷ p ∷ a ∷ b ∷ []) = op_line_of h r p (op_with_numbers kind a b)
+line_of_words h (r ∷ kind ∷ p ∷ words) = op_line_of h r p (op_of_words kind words)
 line_of_words h words = None
 
 -- the line that a text says

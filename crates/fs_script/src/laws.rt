@@ -8,4 +8,6 @@ pub mod fitting;
 pub mod fronts;
 pub mod jobs;
 pub mod journals;
+pub mod scripts;
+pub mod texts;
 pub mod versions;

@@ -5,12 +5,17 @@
 mod fault;
 pub mod laws;
 mod line;
+mod read;
 mod script;
 mod shape;
 mod text_bytes;
 
 pub use fault::{Reason, ScriptFault};
 pub use line::{Data, Line, Op, OpLine};
+pub use read::{read_number, read_script};
 pub use script::Script;
 pub use shape::Shape;
 pub use text_bytes::TextBytes;
+
+#[cfg(test)]
+mod tests;

@@ -3,3 +3,4 @@ pub mod Overwrites
 pub mod AnswerOrder
 pub mod Grammar
 mod Cases
+mod OverwriteCases

@@ -1,9 +1,9 @@
 -- What stands at each place of a list after overwriting, cutting and showing it, and how long it is.
-use Rattle.std.proofs.Common.{◌≡◌, ℕ, zero, suc, ◌+◌, ◌-◌, ◌<◌, ◌≤◌, max, min, Bool, true, false, cond, ltb, leb, List, [], ◌∷◌, ◌++◌, length, take, drop, replicate, get_or, refl, sym, ap, ◌∙◌, arith, inl, inr}
+use Rattle.std.proofs.Common.{◌≡◌, ℕ, zero, suc, ◌+◌, ◌-◌, ◌<◌, ◌≤◌, max, min, cond, ltb, leb, List, [], ◌∷◌, ◌++◌, length, take, drop, replicate, get_or, refl, ap, ◌∙◌, arith, inl, inr}
 use Rattle.std.specs.Prelude.{◌&&◌}
 use Rattle.std.proofs.lemmas.Bool.{cases_lt}
 use Rattle.std.proofs.lemmas.Bool.Decides.{nat_tests}
-use Rattle.std.proofs.lemmas.List.{length-append, length-take, length-take-le, length-drop, length-replicate, get_or_append_left, get_or-append_right, get_or-take, get_or-drop, get_or_past, same_lists, get_or_default}
+use Rattle.std.proofs.lemmas.List.{length-append, length-take, length-take-le, length-drop, length-replicate, get_or_append_left, get_or-append_right, get_or-take, get_or-drop}
 use Rattle.fs_types.specs.Overwrite.{extended, put, cut, shown}
 
 -- a place of blanks is a blank, also past their end
@@ -71,9 +71,9 @@ get_or-put blank xs off ys k =
     elim (cases_lt k off) [
       | inl lt ↦ get_or-put_before blank xs off ys k lt ∙ grind (arith, nat_tests)
       | inr le ↦ elim (cases_lt k (off + length ys)) [
-          | inl lt ↦ get_or-put_within blank xs off ys k le lt ∙ grind (arith, nat_tests)
-          | inr past ↦ get_or-put_behind blank xs off ys k past ∙ grind (arith, nat_tests)
-        ]
+        | inl lt ↦ get_or-put_within blank xs off ys k le lt ∙ grind (arith, nat_tests)
+        | inr past ↦ get_or-put_behind blank xs off ys k past ∙ grind (arith, nat_tests)
+      ]
     ]
 
 pub length-cut : {X : Type 0} (blank : X) (xs : List X) (n : ℕ) → length (cut blank xs n) ≡ n

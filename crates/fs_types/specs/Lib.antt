@@ -2,6 +2,7 @@ pub mod Status
 pub mod PathText
 pub mod NameText
 pub mod Overwrite
+pub mod OverwriteLaws
 pub mod PlainFile
 pub mod Marks
 pub mod PathLaws

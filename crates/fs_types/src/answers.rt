@@ -19,12 +19,14 @@ pub struct Answers {
 }
 
 impl Model for Answers {
-    ghost use Rattle.std.specs.Prelude.{length};
+    ghost use Rattle.std.specs.Prelude.{◌<◌, ◌^◌, length};
     ghost use Rattle.fs_types.specs.Answers.{Given, listed};
 
     ghost Value = { Given };
 
     ghost view = { λ a. record { lines = length a.table.items; list = listed 1 a.table.items } };
+
+    ghost invariant = { λ a. length a.table.items < 2 ^ 32 };
 }
 
 fn empty_table(alloc: Global, lines: u32) -> Result<Vec<Option<Answer>>, Want>
@@ -45,6 +47,15 @@ impl Answers {
         Ok(Answers {
             table: empty_table(alloc, lines)?,
         })
+    }
+
+    /// How many lines there is room for.
+    pub fn lines(&self) -> u32
+        ensures lines { result ≡ self.now.lines }
+        ensures rising { IsRisingFrom 1 self.now.list }
+        ensures within { All (λ x. x.0 ≤ self.now.lines) self.now.list }
+    {
+        self.table.len() as u32
     }
 
     /// The answer to a line, if one was given.

@@ -10,7 +10,6 @@ mod laws;
 mod name;
 mod number;
 mod path;
-mod piece;
 mod short_bytes;
 mod status;
 mod want;
@@ -19,11 +18,13 @@ pub use answer::{Answer, Body};
 pub use answers::Answers;
 pub use digest::Digest16;
 pub use file_state::FileState;
-pub use laws::{answers_are_a_table, names_are_visible_texts, paths_are_mounted_texts};
+pub use laws::{
+    answers_are_a_table, cutting_leaves_the_first_places, names_are_visible_texts,
+    overwriting_is_by_place, paths_are_mounted_texts, showing_gives_a_range,
+};
 pub use name::{Name, NameFault};
 pub use number::{LineNo, Rank, Version};
 pub use path::{Path, PathFault};
-pub use piece::{Frag, PieceId};
 pub use short_bytes::ShortBytes;
 pub use status::Status;
 pub use want::Want;

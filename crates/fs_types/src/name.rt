@@ -8,6 +8,7 @@ use crate::path::is_name_character;
 use crate::want::Want;
 use std::alloc::{AllocError, Global};
 use std::marker::Model;
+use thiserror::Error;
 
 /// The most bytes that a name has.
 const LONGEST: usize = 255;
@@ -31,11 +32,13 @@ impl Model for Name {
 }
 
 /// Why a name could not be made.
-#[derive(Clone, Copy, Debug, PartialEq, Eq)]
+#[derive(Clone, Copy, Debug, Drop, PartialEq, Eq, Error)]
 pub enum NameFault {
     /// The bytes are outside the grammar of names.
+    #[error("not a name")]
     BadName,
     /// Memory ran out.
+    #[error("out of memory")]
     Want,
 }
 

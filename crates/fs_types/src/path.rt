@@ -7,6 +7,7 @@ ghost use Rattle.fs_types.specs.PathText.{IsPath, between_slashes, is_component,
 use crate::want::Want;
 use std::alloc::{AllocError, Global};
 use std::marker::Model;
+use thiserror::Error;
 
 /// The most bytes that a path has.
 const LONGEST: usize = 255;
@@ -30,11 +31,13 @@ impl Model for Path {
 }
 
 /// Why a path could not be made.
-#[derive(Clone, Copy, Debug, PartialEq, Eq)]
+#[derive(Clone, Copy, Debug, Drop, PartialEq, Eq, Error)]
 pub enum PathFault {
     /// The bytes are outside the grammar of paths.
+    #[error("not a path")]
     BadPath,
     /// Memory ran out.
+    #[error("out of memory")]
     Want,
 }
 

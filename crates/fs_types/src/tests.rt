@@ -69,6 +69,7 @@ fn names_are_read_by_their_grammar(rt: HostRuntime) -> Result<(), Fail> {
 #[test]
 fn answers_are_found_by_their_lines(rt: HostRuntime) -> Result<(), Fail> {
     let mut answers = Answers::new(rt.alloc(), 4)?;
+    assert_eq!(rt; answers.lines(), 4);
     answers.set(LineNo(4), Answer::BadF);
     answers.set(LineNo(2), Answer::BadF);
     answers.set(LineNo(2), Answer::Wrote { slots: 7 });

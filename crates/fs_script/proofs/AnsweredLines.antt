@@ -1,0 +1,49 @@
+-- The lines of rising answers, one answer for each number of a range that passes a test.
+use Rattle.std.proofs.Common.{◌≡◌, ℕ, zero, suc, ◌+◌, ◌≤◌, Bool, true, false, List, [], ◌∷◌, map, Option, Some, None, is_some, true≢false, refl, sym, ap, ◌∙◌, subst, inl, inr, arith}
+use Rattle.std.specs.List.{filter, range_with_len}
+use Rattle.std.proofs.lemmas.Bool.{cond_both, cases_eq}
+use Rattle.std.proofs.lemmas.Option.{none-some}
+use Rattle.fs_types.specs.declared.answer.Answer.{Answer}
+use Rattle.fs_types.specs.Answers.{answer_at, IsRisingFrom}
+use Rattle.fs_types.proofs.Tables.{answer_at-same, answer_at-other}
+use Rattle.fs_types.proofs.AnswerOrder.{answer_at-rising_below}
+
+pub rises_past : (xs : List (ℕ × Answer)) (k : ℕ) → IsRisingFrom k xs → answer_at xs k ≡ None → IsRisingFrom (k + 1) xs
+rises_past [] k h e = tt
+rises_past ((i, a) ∷ xs) k h e =
+    elim (cases_eq i k) [
+      | inl is ↦ absurd (none-some a (sym e ∙ answer_at-same i k a xs (sym is)))
+      | inr other ↦ (let from = h.0 in omega arith, h.1)
+    ]
+
+pub none_from-is_some : {X : Type 0} (x : Option X) → is_some x ≡ false → x ≡ None
+none_from-is_some None h = refl
+none_from-is_some (Some y) h = absurd (true≢false h)
+
+with_passing : (P : ℕ → Bool) (a : ℕ) (rest : List ℕ) (xs : List (ℕ × Answer)) → IsRisingFrom a xs → ((n : ℕ) → a ≤ n → is_some (answer_at xs n) ≡ P n) → P a ≡ true
+    → ((ys : List (ℕ × Answer)) → IsRisingFrom (a + 1) ys → ((n : ℕ) → a + 1 ≤ n → is_some (answer_at ys n) ≡ P n) → map (λ x. x.0) ys ≡ rest) → map (λ x. x.0) xs ≡ a ∷ rest
+with_passing P a rest [] rising same e go = absurd (true≢false (sym e ∙ sym (same a (omega arith))))
+with_passing P a rest ((i, b) ∷ xs) rising same e go =
+    elim (cases_eq i a) [
+      | inl is ↦
+          let next : suc i ≡ a + 1 = omega arith in
+          ap (λ k. k ∷ map (λ x. x.0) xs) is
+          ∙ ap (λ ks. a ∷ ks) (go xs (subst (λ k. IsRisingFrom k xs) next rising.1) (λ n from. ap is_some (sym (answer_at-other i n b xs (λ h. omega arith))) ∙ same n (omega arith)))
+      | inr other ↦
+          let from = rising.0 in
+          let none = answer_at-other i a b xs (λ h. omega arith) ∙ answer_at-rising_below xs (suc i) a rising.1 (omega arith) in
+          absurd (true≢false (sym e ∙ sym (same a (omega arith)) ∙ ap is_some none))
+    ]
+
+-- answers that rise, one for each number of a range that passes: their lines are those numbers
+pub lines-passing : (P : ℕ → Bool) (len a : ℕ) (xs : List (ℕ × Answer)) → IsRisingFrom a xs → ((n : ℕ) → a ≤ n → is_some (answer_at xs n) ≡ P n) → ((n : ℕ) → a + len ≤ n → P n ≡ false)
+    → map (λ x. x.0) xs ≡ filter P (range_with_len a len)
+lines-passing P zero a [] rising same past = refl
+lines-passing P zero a ((i, b) ∷ xs) rising same past =
+    let from = rising.0 in
+    absurd (true≢false (sym (ap is_some (answer_at-same i i b xs refl)) ∙ same i from ∙ past i (omega arith)))
+lines-passing P (suc len) a xs rising same past =
+    let rest = filter P (range_with_len (a + 1) len) in
+    cond_both (P a) (a ∷ rest) rest (λ ns. map (λ x. x.0) xs ≡ ns)
+    (λ e. with_passing P a rest xs rising same e (λ ys h k. lines-passing P len (a + 1) ys h k (λ n from. past n (omega arith))))
+    (λ e. lines-passing P len (a + 1) xs (rises_past xs a rising (none_from-is_some (answer_at xs a) (same a (omega arith) ∙ e))) (λ n from. same n (omega arith)) (λ n from. past n (omega arith)))

@@ -1,0 +1,65 @@
+-- What a job within the limits says of each of its lines.
+use Rattle.std.proofs.Common.{◌≡◌, ℕ, zero, suc, ◌+◌, ◌<◌, ◌≤◌, List, [], ◌∷◌, length, Some, refl, subst, arith}
+use Rattle.std.specs.List.{slice_get, AllByRecursion}
+use Rattle.std.specs.Prelude.{count_by, take}
+use Rattle.fs_script.specs.declared.shape.Shape.{Shape}
+use Rattle.fs_script.specs.declared.line.Line.{Line}
+use Rattle.fs_script.specs.declared.line.Line.TheVariants as lines
+use Rattle.fs_script.specs.declared.line.OpLine.{OpLine}
+use Rattle.fs_script.specs.Job.{Job, operation, op_at, is_barrier, phase}
+use Rattle.fs_script.specs.Grammar.{IsJob, IsLine, IsOpLine}
+
+some_is : (o p : OpLine) → operation (Some (lines.Op o)) ≡ Some p → o ≡ p
+some_is o p e = cc
+
+at_head : (h : Shape) (l : Line) (o : OpLine) → IsLine h l → operation (Some l) ≡ Some o → IsOpLine h o
+at_head h lines.Note o is e = absurd is
+at_head h lines.Barrier o is e = absurd is
+at_head h (lines.Op p) o is e = subst (IsOpLine h) (some_is p o e) is
+
+at_place : (h : Shape) (ls : List Line) (k : ℕ) (o : OpLine) → AllByRecursion (IsLine h) ls → operation (slice_get ls k) ≡ Some o → IsOpLine h o
+at_place h [] k o all e = absurd cc
+at_place h (l ∷ ls) zero o all e = at_head h l o all.0 e
+at_place h (l ∷ ls) (suc k) o all e = at_place h ls k o all.1 e
+
+at_line : (s : Job) (n : ℕ) (o : OpLine) → AllByRecursion (IsLine s.shape) s.lines → op_at s n ≡ Some o → IsOpLine s.shape o
+at_line s zero o all e = absurd cc
+at_line s (suc zero) o all e = absurd cc
+at_line s (suc (suc k)) o all e = at_place s.shape s.lines k o all e
+
+-- an operation of a job within the limits is within them
+pub IsOpLine-from_job : (s : Job) (n : ℕ) (o : OpLine) → IsJob s → op_at s n ≡ Some o → IsOpLine s.shape o
+IsOpLine-from_job s n o job e = at_line s n o job.lines e
+
+slice_get-operation : (ls : List Line) (k : ℕ) (o : OpLine) → operation (slice_get ls k) ≡ Some o → k < length ls
+slice_get-operation [] k o h = absurd cc
+slice_get-operation (l ∷ ls) zero o h = omega arith
+slice_get-operation (l ∷ ls) (suc k) o h = let later = slice_get-operation ls k o h in omega arith
+
+-- an operation is a line of the script
+pub op_at-within : (s : Job) (n : ℕ) (o : OpLine) → op_at s n ≡ Some o → (2 ≤ n) × (n < 2 + length s.lines)
+op_at-within s zero o h = absurd cc
+op_at-within s (suc zero) o h = absurd cc
+op_at-within s (suc (suc k)) o h = let within = slice_get-operation s.lines k o h in (omega arith, omega arith)
+
+-- ---- the one client
+
+pub rank-first : (h : Shape) (o : OpLine) → h.clients ≡ 1 → IsOpLine h o → o.rank ≡ 0
+rank-first h o one is = omega (arith, is.rank, one)
+
+-- each operation is client 0's
+pub rank-from_job : (s : Job) (n : ℕ) (o : OpLine) → IsJob s → op_at s n ≡ Some o → o.rank ≡ 0
+rank-from_job s n o job is = rank-first s.shape o job.shape.clients (IsOpLine-from_job s n o job is)
+
+-- ---- phases
+
+no_barriers : (h : Shape) (k : ℕ) (ls : List Line) → AllByRecursion (IsLine h) ls → count_by is_barrier (take k ls) ≡ 0
+no_barriers h zero ls all = refl
+no_barriers h (suc k) [] all = refl
+no_barriers h (suc k) (lines.Note ∷ ls) all = absurd all.0
+no_barriers h (suc k) (lines.Barrier ∷ ls) all = absurd all.0
+no_barriers h (suc k) (lines.Op o ∷ ls) all = let rest = no_barriers h k ls all.1 in omega arith
+
+-- where all lines are operations, there is but one phase
+pub phase-only : (s : Job) (n : ℕ) → IsJob s → phase s n ≡ 0
+phase-only s n job = no_barriers s.shape _ s.lines job.lines

@@ -1,0 +1,29 @@
+//! Scripts and the jobs that they spell.
+
+ghost use Rattle.std.specs.Prelude.{◌≡◌, ◌<◌, ◌^◌, ℕ, List, Some, Ok};
+ghost use Rattle.std.specs.Fmt.{decimal};
+ghost use Rattle.fs_script.specs.Job.{Job};
+ghost use Rattle.fs_script.specs.Grammar.{IsJob, IsScript};
+ghost use Rattle.fs_script.specs.Reading.{job_of, number_of};
+
+/// The bytes of a script are those of one job.
+pub fn one_job()
+    ensures { (bytes : List ℕ) (s t : Job) → IsScript bytes s → IsScript bytes t → s ≡ t }
+{}
+
+/// A script is that of a job within the limits.
+pub fn scripts_are_of_jobs()
+    ensures { (bytes : List ℕ) (s : Job) → IsScript bytes s → IsJob s }
+{}
+
+/// Reading finds a job exactly where the bytes are its script.
+pub fn reading_finds_scripts()
+    ensures found { (bytes : List ℕ) (s : Job) → job_of bytes ≡ Ok s → IsScript bytes s }
+    ensures all { (bytes : List ℕ) (s : Job) → IsScript bytes s → job_of bytes ≡ Ok s }
+{}
+
+/// A word is read as a number exactly where it is the decimal text of one below 2 ^ 64.
+pub fn numbers_are_decimal()
+    ensures spelled { (w : List ℕ) (n : ℕ) → number_of w ≡ Some n → (n < 2 ^ 64) × (w ≡ decimal n) }
+    ensures read { (n : ℕ) → n < 2 ^ 64 → number_of (decimal n) ≡ Some n }
+{}

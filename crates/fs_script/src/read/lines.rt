@@ -1,0 +1,36 @@
+//! The lines of a text: a line feed ends each, and the last may lack it.
+
+ghost use Rattle.std.specs.Prelude.{◌≡◌, ◌==◌, ◌<◌, [], ◌∷◌, length, MatchOption};
+ghost use Rattle.std.specs.List.{position};
+ghost use Rattle.fs_script.specs.Grammar.{lines_of};
+
+fn line_feed(text: &[u8]) -> Option<usize>
+    ensures { result ≡ position (λ b. b == 10) text.now }
+{
+    text.iter().position(|b| *b == b'\n')
+}
+
+/// The first line of the text and what follows it, or `None` where the text is empty.
+pub fn next_line(text: &[u8]) -> Option<(&[u8], &[u8])>
+    ensures { MatchOption result (lines_of text.now ≡ [])
+        (λ x. (lines_of text.now ≡ x.0.now ∷ lines_of x.1.now) × (length x.1.now < length text.now)) }
+{
+    match line_feed(text) {
+        Some(end) => Some((&text[..end], &text[end + 1..])),
+        None if text.is_empty() => None,
+        None => Some((text, &[])),
+    }
+}
+
+/// How many lines the text has.
+pub fn line_count(text: &[u8]) -> usize
+    ensures { result ≡ length (lines_of text.now) }
+{
+    let mut count = 0;
+    let mut rest = text;
+    while let Some((_, others)) = next_line(rest) {
+        count += 1;
+        rest = others;
+    }
+    count
+}
