@@ -1,0 +1,3 @@
+-- Extents, the bytes that they make, and the writes that they are of.
+pub mod Bytes
+pub mod Writes

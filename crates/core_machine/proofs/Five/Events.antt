@@ -1,0 +1,29 @@
+-- The script of five lines, event by event, worked out by hand.
+use Rattle.std.proofs.Common.{◌≡◌, [], ◌∷◌, refl, false}
+use Rattle.std.specs.Prelude.{codes}
+use Rattle.fs_types.specs.declared.answer.Answer.TheVariants as answers
+use Rattle.fs_types.specs.declared.answer.Body.TheVariants as bodies
+use Rattle.fs_script.proofs.FiveLines.{five_lines, path_a}
+use Rattle.core_machine.specs.Moment.{Moment, ready}
+use Rattle.core_machine.specs.Event.{step}
+
+abbrev pub start : Moment
+start = record { job = five_lines; places = 0 ∷ []; answers = []; journals = (path_a, []) ∷ []; spent = false }
+
+abbrev pub ended : Moment
+ended = record {
+  job = five_lines;
+  places = 4 ∷ [];
+  answers = (2, answers.Done 1) ∷ (3, answers.Wrote 1) ∷ (4, answers.Done 2) ∷ (5, answers.Shown 2 3 (bodies.Hex (codes "ell"))) ∷ [];
+  journals = (path_a, 2 ∷ 4 ∷ []) ∷ [];
+  spent = false;
+}
+
+ready_at_start : ready start ≡ 0 ∷ []
+ready_at_start = refl
+
+four_events : step (step (step (step start 0) 0) 0) 0 ≡ ended
+four_events = refl
+
+none_ready_at_end : ready ended ≡ []
+none_ready_at_end = refl

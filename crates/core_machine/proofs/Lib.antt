@@ -1,0 +1,6 @@
+pub mod Extents
+pub mod PathTables
+pub mod Paths
+pub mod Kept
+pub mod Legal
+pub mod Five

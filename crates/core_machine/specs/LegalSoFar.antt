@@ -1,0 +1,33 @@
+-- What holds at every moment of a simulated run, and which moments a run reaches.
+use Rattle.std.specs.Prelude.{◌≡◌, ℕ, ◌<◌, List, [], ◌∷◌, length, map, Some, IsSome, is_some, nat_lt, slice_index}
+use Rattle.std.specs.List.{slice_get, Contains}
+use Rattle.fs_types.specs.Answers.{IsRising}
+use Rattle.fs_script.specs.Job.{Job, op_at, program}
+use Rattle.fs_script.specs.Pending.{Answering}
+use Rattle.fs_script.specs.Grammar.{IsJob}
+use Rattle.fs_script.specs.SoFar.{IsLegalSoFar}
+use Rattle.fs_script.specs.Report.{ArePaths}
+use Rattle.core_machine.specs.Moment.{Moment, answering, journal, ready}
+use Rattle.core_machine.specs.Event.{step}
+
+-- of a client's program the first lines, up to its place, have answers, and no others
+abbrev pub IsAnsweredUpTo : Job → Answering → ℕ → ℕ → Type 0
+IsAnsweredUpTo s A r place = (k n : ℕ) → slice_get (program s r) k ≡ Some n → is_some (A n) ≡ nat_lt k place
+
+-- the moment is one of a legal run; told are the clients whose devices tell their bytes
+pub record IsLegalMoment (told : List ℕ) (m : Moment) : Type 0 where
+  pub job : IsJob m.job
+  -- one place for each client
+  pub clients : length m.places ≡ m.job.shape.clients
+  pub places : (r : ℕ) → r < m.job.shape.clients → IsAnsweredUpTo m.job (answering m) r (slice_index m.places r)
+  -- nothing but operations has an answer
+  pub operations : (n : ℕ) → IsSome (answering m n) → IsSome (op_at m.job n)
+  pub rising : IsRising m.answers
+  pub paths : ArePaths m.job (map (λ j. j.0) m.journals)
+  -- what was answered so far is legal
+  pub legal : IsLegalSoFar told m.job (answering m) (journal m)
+
+-- the run that begins at m and gives the clients these turns, each ready when its turn comes, is at n in the end
+abbrev pub Reaches : Moment → List ℕ → Moment → Type 0
+Reaches m [] n = m ≡ n
+Reaches m (r ∷ turns) n = Contains (ready m) r × Reaches (step m r) turns n

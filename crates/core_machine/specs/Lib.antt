@@ -1,0 +1,11 @@
+pub mod Extents
+pub mod PathState
+pub mod PathTable
+pub mod PathView
+pub mod Moment
+pub mod Event
+pub mod Standing
+pub mod Core
+pub mod LegalSoFar
+pub mod MomentReport
+pub mod RunLaws

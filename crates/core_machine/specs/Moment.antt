@@ -1,0 +1,58 @@
+-- Moments of a simulated run: how far each client has come, the answers and the journals so far.
+use Rattle.std.specs.Prelude.{◌≡◌, ℕ, ◌-◌, Bool, false, List, [], ◌∷◌, ◌++◌, length, map, filter, sum_by, is_some, replicate, Option, slice_index, if◌then◌else◌}
+use Rattle.std.specs.List.{slice_get, range_with_len, AllByRecursion}
+use Rattle.std.specs.Str.{bytes_eq}
+use Rattle.fs_types.specs.declared.answer.Answer.{Answer}
+use Rattle.fs_types.specs.Answers.{answer_at}
+use Rattle.fs_types.specs.PlainFile.{File}
+use Rattle.fs_script.specs.Job.{Job, program}
+use Rattle.fs_script.specs.Pending.{Answering}
+use Rattle.fs_script.specs.Effect.{state}
+use Rattle.fs_script.specs.Report.{journal_of, ArePaths}
+
+pub record Moment : Type 0 where
+  pub job : Job
+  -- for each client, how many lines of its program were answered
+  pub places : List ℕ
+  pub answers : List (ℕ × Answer)
+  -- for each path that the script names, in byte order
+  pub journals : List (List ℕ × List ℕ)
+  -- want of memory ended the run
+  pub spent : Bool
+
+-- the answers so far, by line
+abbrev pub answering : Moment → Answering
+answering m = answer_at m.answers
+
+-- the journal of a path so far
+abbrev pub journal : Moment → List ℕ → List ℕ
+journal m p = journal_of m.journals p
+
+-- the file of a path now
+abbrev pub file_now : Moment → List ℕ → File ℕ
+file_now m p = state m.job (answering m) (journal m p) (length (journal m p))
+
+-- the line that comes next in a client's program
+abbrev pub next_line : Moment → ℕ → Option ℕ
+next_line m r = slice_get (program m.job r) (slice_index m.places r)
+
+-- the clients that have an event left, ascending; none once memory ran out
+abbrev pub ready : Moment → List ℕ
+ready m = if m.spent then [] else filter (λ r. is_some (next_line m r)) (range_with_len 0 m.job.shape.clients)
+
+-- how many lines of the clients' programs have no answer yet
+abbrev pub events_left : Moment → ℕ
+events_left m = sum_by (λ r. length (program m.job r) - slice_index m.places r) (range_with_len 0 m.job.shape.clients)
+
+-- the journals with a line at the end of one path's
+abbrev pub with_entry : List ℕ → ℕ → List (List ℕ × List ℕ) → List (List ℕ × List ℕ)
+with_entry p n js = map (λ j. if bytes_eq j.0 p then (j.0, j.1 ++ n ∷ []) else j) js
+
+-- the run begins: nothing was answered, and every journal is empty
+pub record IsFirst (s : Job) (m : Moment) : Type 0 where
+  pub job : m.job ≡ s
+  pub places : m.places ≡ replicate s.shape.clients 0
+  pub answers : m.answers ≡ []
+  pub paths : ArePaths s (map (λ j. j.0) m.journals)
+  pub journals : AllByRecursion (λ j. j.1 ≡ []) m.journals
+  pub spent : m.spent ≡ false

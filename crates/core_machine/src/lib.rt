@@ -1,0 +1,18 @@
+//! The core of a simulated run: one step is one event of one client. It keeps the journals, the
+//! files and the pending writes of a job, and touches nothing outside memory.
+#![tactic(auto)]
+
+mod event;
+mod extent;
+mod file_state;
+mod laws;
+mod machine;
+mod path_state;
+mod path_table;
+
+pub use laws::runs_are_legal;
+pub use machine::Core;
+pub use path_table::PathTable;
+
+#[cfg(test)]
+mod tests;
