@@ -1,0 +1,7 @@
+pub mod ToldLemmas
+mod TextLemmas
+mod JobReports
+mod Runs
+mod WordsCases
+mod LinesCases
+mod Outputs

@@ -1,0 +1,66 @@
+-- Runs that go on by one event, and the journals that they leave.
+use Rattle.std.proofs.Common.{◌≡◌, ℕ, zero, suc, ◌+◌, ◌≤◌, false, cond, List, [], ◌∷◌, ◌++◌, length, map, take, Option, Some, None, refl, sym, ap, subst, ◌∙◌, arith}
+use Rattle.std.specs.List.{slice_get, Contains}
+use Rattle.std.specs.Str.{bytes_eq}
+use Rattle.std.proofs.lemmas.List.{take_all}
+use Rattle.std.proofs.lemmas.Option.{same_Some}
+use Rattle.fs_types.specs.PathText.{IsPath}
+use Rattle.fs_script.specs.Grammar.{IsJob}
+use Rattle.fs_script.specs.Report.{AreRising, journal_of}
+use Rattle.fs_script.proofs.Jobs.{IsOpLine-from_job}
+use Rattle.core_machine.proofs.Paths.{not_among, same_bytes, other_bytes}
+use Rattle.fs_script.specs.declared.line.OpLine.{OpLine}
+use Rattle.fs_script.specs.Job.{Job, op_at, Names}
+use Rattle.core_machine.specs.Moment.{Moment, ready, next_line}
+use Rattle.core_machine.specs.Event.{step, step_at, step_line}
+use Rattle.core_machine.specs.LegalSoFar.{Reaches}
+
+-- a run and one more turn
+pub Reaches-push : (m n : Moment) (turns : List ℕ) (r : ℕ) → Reaches m turns n → Contains (ready n) r → Reaches m (turns ++ r ∷ []) (step n r)
+Reaches-push m n [] r run waits = (subst (λ (k : Moment). Contains (ready k) r) (sym run) waits, ap (λ (k : Moment). step k r) run)
+Reaches-push m n (t ∷ turns) r run waits = (run.0, Reaches-push (step m t) n turns r run.1 waits)
+
+unspent_line : (m : Moment) (r n : ℕ) (o : Option OpLine) → m.spent ≡ false → (step_line m r n o).spent ≡ false
+unspent_line m r n None unspent = unspent
+unspent_line m r n (Some o) unspent = refl
+
+unspent_at : (m : Moment) (r : ℕ) (n : Option ℕ) → m.spent ≡ false → (step_at m r n).spent ≡ false
+unspent_at m r None unspent = unspent
+unspent_at m r (Some n) unspent = unspent_line m r n (op_at m.job n) unspent
+
+-- a run of events never runs out of memory
+pub Reaches-unspent : (m n : Moment) (turns : List ℕ) → Reaches m turns n → m.spent ≡ false → n.spent ≡ false
+Reaches-unspent m n [] run unspent = ap (λ (k : Moment). k.spent) (sym run) ∙ unspent
+Reaches-unspent m n (r ∷ turns) run unspent = Reaches-unspent (step m r) n turns run.1 (unspent_at m r (next_line m r) unspent)
+
+-- ---- what is reported of each path
+
+-- the journal of the path at a place is the one that stands there
+pub entry-at : (js : List (List ℕ × List ℕ)) (i : ℕ) (p j : List ℕ) → AreRising (map (λ k. k.0) js) → slice_get (map (λ k. k.0) js) i ≡ Some p → j ≡ journal_of js p → slice_get js i ≡ Some (p, j)
+entry-at [] i p j rising at is = absurd cc
+entry-at (k ∷ ks) zero p j rising at is =
+    let here : k.0 ≡ p = same_Some k.0 p at in
+    let own : j ≡ k.1 = is ∙ ap (λ b. cond b k.1 (journal_of ks p)) (same_bytes k.0 p here) in
+    ap (λ (q : List ℕ). Some (q, k.1)) here ∙ ap (λ (l : List ℕ). Some (p, l)) (sym own)
+entry-at (k ∷ ks) (suc i) p j rising at is =
+    let other : bytes_eq k.0 p ≡ false = other_bytes k.0 p (λ e. not_among k.0 (map (λ l. l.0) ks) i rising.0 (at ∙ ap Some (sym e))) in
+    entry-at ks i p j rising.1 at (is ∙ ap (λ b. cond b k.1 (journal_of ks p)) other)
+
+-- one more of a list
+pub take-get : {X : Type 0} (xs : List X) (i : ℕ) (x : X) → slice_get xs i ≡ Some x → take (i + 1) xs ≡ take i xs ++ x ∷ []
+take-get [] i x at = absurd cc
+take-get (y ∷ ys) zero x at = ap (λ z. z ∷ []) (same_Some y x at)
+take-get (y ∷ ys) (suc i) x at = let e : suc i + 1 ≡ suc (i + 1) = omega arith in ap (λ k. take k (y ∷ ys)) e ∙ ap (λ zs. y ∷ zs) (take-get ys i x at)
+
+pub slice_get-map : {X Y : Type 0} (f : X → Y) (xs : List X) (i : ℕ) (x : X) → slice_get xs i ≡ Some x → slice_get (map f xs) i ≡ Some (f x)
+slice_get-map f [] i x at = absurd cc
+slice_get-map f (y ∷ ys) zero x at = ap (λ z. Some (f z)) (same_Some y x at)
+slice_get-map f (y ∷ ys) (suc i) x at = slice_get-map f ys i x at
+
+-- a list of which all was taken
+pub take-whole : {X : Type 0} (xs : List X) (n : ℕ) → length xs ≤ n → take n xs ≡ xs
+take-whole xs n le = take_all n xs le
+
+-- the paths that a job names are in the grammar
+pub IsPath-named : (s : Job) (p : List ℕ) → IsJob s → Names s p → IsPath p
+IsPath-named s p job named = subst IsPath named.on (IsOpLine-from_job s named.line named.op job named.is).path

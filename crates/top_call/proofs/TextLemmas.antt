@@ -1,0 +1,127 @@
+-- The texts of lists, one element after another.
+use Rattle.std.proofs.Common.{◌≡◌, ◌≢◌, ℕ, suc, ◌+◌, ◌<◌, ◌≤◌, List, [], ◌∷◌, ◌++◌, map, Some, None, refl, sym, ap, subst, ◌∙◌, append_assoc, append-nil, arith, inl, inr, ◌⊎◌, if◌then◌else◌}
+use Rattle.std.specs.Prelude.{All, codes, nat_lt}
+use Rattle.std.specs.List.{flat_map}
+use Rattle.std.proofs.lemmas.Bool.Decides.{nat_tests}
+use Rattle.std.proofs.lemmas.List.{flat_map_more}
+use Rattle.std.proofs.lemmas.List.Elements.{All-head, All-tail}
+use Rattle.fs_types.specs.Answers.{answer_at, IsRisingFrom}
+use Rattle.fs_types.specs.declared.answer.Answer.{Answer}
+use Rattle.fs_types.proofs.Tables.{answer_at-same, answer_at-other}
+use Rattle.fs_types.proofs.AnswerOrder.{answer_at-rising_below}
+use Rattle.fs_script.specs.Text.{path_lines, answer_line, line_feed, text}
+use Rattle.top_call.specs.JobReport.{path_text, report_view}
+use Rattle.top_call.specs.declared.report.JobReport.{JobReport}
+use Rattle.top_call.specs.declared.report.PathReport.{PathReport}
+
+-- the answers to lines below n
+abbrev pub answers_below : ℕ → List (ℕ × Answer) → List (ℕ × Answer)
+answers_below n [] = []
+answers_below n (x ∷ xs) = if nat_lt x.0 n then x ∷ answers_below n xs else answers_below n xs
+
+-- an answer to a line below n is among them
+below-kept : (n k : ℕ) (a : Answer) (xs : List (ℕ × Answer)) → k < n → answers_below n ((k, a) ∷ xs) ≡ (k, a) ∷ answers_below n xs
+below-kept n k a xs h = grind (arith, nat_tests)
+
+-- an answer to any other line isn't
+below-left_out : (n k : ℕ) (a : Answer) (xs : List (ℕ × Answer)) → n ≤ k → answers_below n ((k, a) ∷ xs) ≡ answers_below n xs
+below-left_out n k a xs h = grind (arith, nat_tests)
+
+-- none is below the first line
+pub below-none : (xs : List (ℕ × Answer)) (n k : ℕ) → n ≤ k → IsRisingFrom k xs → answers_below n xs ≡ []
+below-none [] n k l h = refl
+below-none ((i, a) ∷ xs) n k l h =
+    below-left_out n i a xs (omega (arith, h.0)) ∙ below-none xs n (suc i) (omega (arith, h.0)) h.1
+
+-- all are below a line past the last one
+pub below-all : (xs : List (ℕ × Answer)) (n m : ℕ) → m < n → All (λ x. x.0 ≤ m) xs → answers_below n xs ≡ xs
+below-all [] n m l h = refl
+below-all ((i, a) ∷ xs) n m l h =
+    let first : i ≤ m = All-head (λ (x : ℕ × Answer). x.0 ≤ m) (i, a) xs h in
+    below-kept n i a xs (omega arith) ∙ ap (λ ys. (i, a) ∷ ys) (below-all xs n m l (All-tail (λ (x : ℕ × Answer). x.0 ≤ m) (i, a) xs h))
+
+-- how a line stands to another
+cases_line : (m n : ℕ) → (m < n) ⊎ ((m ≡ n) ⊎ (n < m))
+cases_line m n = grind arith
+
+-- one line more, where it is the first one
+below-first : (xs : List (ℕ × Answer)) (n : ℕ) (a b : Answer) → IsRisingFrom (suc n) xs → answer_at ((n, b) ∷ xs) n ≡ Some a → answers_below (n + 1) ((n, b) ∷ xs) ≡ answers_below n ((n, b) ∷ xs) ++ (n, a) ∷ []
+below-first xs n a b h e =
+    let one = answer_at-same n n b xs refl in
+    let kept = below-kept (n + 1) n b xs (omega arith) in
+    let left_out = below-left_out n n b xs (omega arith) in
+    let above = below-none xs (n + 1) (suc n) (omega arith) h in
+    let below = below-none xs n (suc n) (omega arith) h in
+    cc
+
+-- one line more, where it is answered
+pub below-answered : (xs : List (ℕ × Answer)) (k n : ℕ) (a : Answer) → IsRisingFrom k xs → answer_at xs n ≡ Some a → answers_below (n + 1) xs ≡ answers_below n xs ++ (n, a) ∷ []
+below-answered [] k n a h e = cc
+below-answered ((i, b) ∷ xs) k n a h e = elim (cases_line n i) [
+  | inl l ↦
+      let other = answer_at-other i n b xs (omega arith) in
+      let none = answer_at-rising_below xs (suc i) n h.1 (omega arith) in
+      cc
+  | inr g ↦ elim g [
+    | inl same ↦
+        let h' = subst (λ (m : ℕ). IsRisingFrom (suc m) xs) (sym same) h.1 in
+        let e' = subst (λ (m : ℕ). answer_at ((m, b) ∷ xs) n ≡ Some a) (sym same) e in
+        subst (λ (m : ℕ). answers_below (n + 1) ((m, b) ∷ xs) ≡ answers_below n ((m, b) ∷ xs) ++ (n, a) ∷ []) same (below-first xs n a b h' e')
+    | inr l ↦
+        let more = below-kept (n + 1) i b xs (omega arith) in
+        let kept = below-kept n i b xs l in
+        let rest = below-answered xs (suc i) n a h.1 (sym (answer_at-other i n b xs (omega arith)) ∙ e) in
+        cc
+  ]
+]
+
+-- one line more, where the first one is another
+below-unlike : (xs : List (ℕ × Answer)) (n i : ℕ) (b : Answer) → n ≢ i → answers_below (n + 1) xs ≡ answers_below n xs → answers_below (n + 1) ((i, b) ∷ xs) ≡ answers_below n ((i, b) ∷ xs)
+below-unlike xs n i b h e = grind (arith, nat_tests)
+
+-- one line more, where it isn't answered
+pub below-unanswered : (xs : List (ℕ × Answer)) (n : ℕ) → answer_at xs n ≡ None → answers_below (n + 1) xs ≡ answers_below n xs
+below-unanswered [] n e = refl
+below-unanswered ((i, b) ∷ xs) n e = elim (cases_line n i) [
+  | inl l ↦ below-unlike xs n i b (omega arith) (below-unanswered xs n (sym (answer_at-other i n b xs (omega arith)) ∙ e))
+  | inr g ↦ elim g [
+    | inl same ↦
+        let one = answer_at-same i n b xs same in
+        cc
+    | inr l ↦ below-unlike xs n i b (omega arith) (below-unanswered xs n (sym (answer_at-other i n b xs (omega arith)) ∙ e))
+  ]
+]
+
+-- the text of the answers below a line, and the line of its answer
+pub lines-answered : (front old new : List ℕ) (xs : List (ℕ × Answer)) (n : ℕ) (a : Answer) → IsRisingFrom 1 xs → answer_at xs n ≡ Some a → old ≡ front ++ flat_map answer_line (answers_below n xs) → new ≡ old ++ answer_line (n, a) → new ≡ front ++ flat_map answer_line (answers_below (n + 1) xs)
+lines-answered front old new xs n a h e o w =
+    w ∙ ap (λ t. t ++ answer_line (n, a)) o ∙ flat_map_more answer_line front (answers_below n xs) (n, a) ∙ ap (λ ys. front ++ flat_map answer_line ys) (sym (below-answered xs 1 n a h e))
+
+-- the text of the answers below a line that isn't answered
+pub lines-unanswered : (front old new : List ℕ) (xs : List (ℕ × Answer)) (n : ℕ) → answer_at xs n ≡ None → old ≡ front ++ flat_map answer_line (answers_below n xs) → new ≡ old → new ≡ front ++ flat_map answer_line (answers_below (n + 1) xs)
+lines-unanswered front old new xs n e o w =
+    w ∙ o ∙ ap (λ ys. front ++ flat_map answer_line ys) (sym (below-unanswered xs n e))
+
+-- the text of the answers below a line past the last one
+pub lines-all : (front out : List ℕ) (xs : List (ℕ × Answer)) (n m : ℕ) → m < n → All (λ x. x.0 ≤ m) xs → out ≡ front ++ flat_map answer_line (answers_below n xs) → out ≡ front ++ flat_map answer_line xs
+lines-all front out xs n m l h o = o ∙ ap (λ ys. front ++ flat_map answer_line ys) (below-all xs n m l h)
+
+-- no text before the first line
+pub lines-none : (front : List ℕ) (xs : List (ℕ × Answer)) → IsRisingFrom 1 xs → front ≡ front ++ flat_map answer_line (answers_below 1 xs)
+lines-none front xs h = sym (append-nil front) ∙ ap (λ ys. front ++ flat_map answer_line ys) (sym (below-none xs 1 1 (omega arith) h))
+
+-- the lines of journals and files, path by path
+pub path_lines-map : (ps : List PathReport) → path_lines (map (λ p. (p.path, p.journal.items)) ps) (map (λ p. (p.path, p.state)) ps) ≡ flat_map path_text ps
+path_lines-map [] = refl
+path_lines-map (p ∷ ps) = ap (λ t. path_text p ++ t) (path_lines-map ps)
+
+-- the parts of a report's text, one after another
+pub text-of_parts : (r : JobReport) (answers paths whole : List ℕ) → answers ≡ flat_map answer_line r.answers.list → paths ≡ answers ++ flat_map path_text r.paths.items → whole ≡ paths ++ codes "end\n" → whole ≡ text (report_view r)
+text-of_parts r answers paths whole a p w =
+    w ∙ ap (λ t. t ++ codes "end\n") (p ∙ ap (λ t. t ++ flat_map path_text r.paths.items) a ∙ ap (λ t. flat_map answer_line r.answers.list ++ t) (sym (path_lines-map r.paths.items)))
+    ∙ sym (append_assoc (flat_map answer_line r.answers.list ++ path_lines (report_view r).journals (report_view r).files) (codes "end") line_feed)
+
+-- four parts, one after another
+pub four_parts : (front a b c d one two three four : List ℕ) → one ≡ front ++ a → two ≡ one ++ b → three ≡ two ++ c → four ≡ three ++ d → four ≡ front ++ (a ++ b ++ c ++ d)
+four_parts front a b c d one two three four e f g h =
+    h ∙ ap (λ t. t ++ d) (g ∙ ap (λ t. t ++ c) (f ∙ ap (λ t. t ++ b) e)) ∙ simp append_assoc

@@ -1,0 +1,13 @@
+pub mod Told
+pub mod Faults
+pub mod Source
+pub mod Sink
+pub mod ReadAll
+pub mod InMemory
+pub mod SpillDev
+pub mod Host
+pub mod JobReport
+pub mod Lines
+pub mod Words
+pub mod Outcome
+pub mod Top

@@ -1,0 +1,63 @@
+//! What is written where the program does not run a job.
+
+ghost use Rattle.std.specs.Prelude.{◌≡◌, ◌++◌, IfOk, OnOk};
+ghost use Rattle.top_call.specs.Lines.{reason_text, refusal_line, usage_line};
+
+use crate::text::append_number;
+use fs_script::{Reason, ScriptFault};
+use fs_types::{LineNo, Want};
+use std::alloc::Global;
+
+/// What is written for words that are no command.
+pub fn usage_text() -> &'static [u8]
+    ensures { result.now ≡ usage_line }
+{
+    b"usage: unifyfs sim SEED | run | check NAME | load N | stage NAME\n"
+}
+
+fn reason_text(reason: Reason) -> &'static [u8]
+    ensures { result.now ≡ reason_text reason }
+{
+    match reason {
+        Reason::Op => b"op",
+    }
+}
+
+fn append_bad_line(
+    alloc: Global,
+    out: &mut Vec<u8>,
+    line: LineNo,
+    reason: Reason,
+) -> Result<(), Want>
+    ensures { OnOk result (out.new.items ≡ out.old.items ++ refusal_line (ScriptFault.BadLine line reason)) }
+{
+    append_number(alloc, out, b"refused line=", u64::from(line.0))?;
+    out.extend_from_slice(b" reason=")?;
+    out.extend_from_slice(reason_text(reason))?;
+    out.push(b'\n')?;
+    Ok(())
+}
+
+fn append_refusal(alloc: Global, out: &mut Vec<u8>, fault: &ScriptFault) -> Result<(), Want>
+    ensures { OnOk result (out.new.items ≡ out.old.items ++ refusal_line fault.now) }
+{
+    match fault {
+        ScriptFault::TooLong => out.extend_from_slice(b"refused long\n")?,
+        ScriptFault::BadHeader => out.extend_from_slice(b"refused header\n")?,
+        ScriptFault::BadLine { line, reason } => append_bad_line(alloc, out, *line, *reason)?,
+        ScriptFault::Want => {}
+    }
+    Ok(())
+}
+
+/// The line that says why a script is refused. Want of memory is no refusal, and has none.
+pub fn refusal_text(alloc: Global, fault: &ScriptFault) -> Result<Vec<u8>, Want>
+    ensures { IfOk result (λ v. v.items ≡ refusal_line fault.now) }
+{
+    let mut out = Vec::new(alloc);
+    append_refusal(alloc, &mut out, fault)?;
+    Ok(out)
+}
+
+#[cfg(test)]
+mod tests;

@@ -1,0 +1,100 @@
+//! The command `sim`: a script from the input, simulated, and its report as a text.
+
+ghost use Rattle.std.specs.Prelude.{◌≡◌, ◌≢◌, ◌⊎◌, ℕ, List, Err, IfOk, IfSome, IsErrOf};
+ghost use Rattle.fs_script.specs.Report.{Report, IsLegal};
+ghost use Rattle.fs_script.specs.Text.{text};
+ghost use Rattle.top_call.specs.Faults.{HasRisen};
+ghost use Rattle.top_call.specs.Told.{IsAtEnd};
+ghost use Rattle.top_call.specs.Lines.{refusal_line};
+ghost use Rattle.top_call.specs.Outcome.{IsSimAnswer};
+
+use crate::outside::{ReadAllNo, Source, read_all};
+use crate::refusal::refusal_text;
+use crate::run::simulate;
+use crate::text::report_text;
+use fs_script::{Script, ScriptFault, read_script};
+use fs_types::{Status, Want};
+use std::alloc::Global;
+use thiserror::Error;
+
+/// The most bytes of a script.
+const SCRIPT_LIMIT: usize = 4_194_304;
+
+/// A text that is to be written, and the status of the command once it is.
+#[derive(Debug, Drop)]
+pub struct Reply {
+    pub status: Status,
+    pub text: Vec<u8>,
+}
+
+/// Why there is nothing to write.
+#[derive(Clone, Copy, Debug, Drop, PartialEq, Eq, Error)]
+pub enum SimFault {
+    /// The input failed.
+    #[error("the input failed")]
+    ReadFault,
+    /// Memory ran out.
+    #[error("out of memory")]
+    Memory,
+}
+
+// The report of a script's job, as a text.
+fn report(alloc: Global, s: &Script) -> Result<Reply, SimFault>
+    ensures status { IfOk result (λ r. r.status ≡ Status.Done) }
+    ensures report { IfOk result (λ r. (report : Report) × (r.text.items ≡ text report) × ((told : List ℕ) → IsLegal s.now report told)) }
+    ensures memory { result ≢ Err SimFault.ReadFault }
+{
+    let Ok(report) = simulate(alloc, s) else {
+        return Err(SimFault::Memory);
+    };
+    match report_text(alloc, &report) {
+        Ok(text) => Ok(Reply {
+            status: Status::Done,
+            text,
+        }),
+        Err(Want) => Err(SimFault::Memory),
+    }
+}
+
+// The line that says why the input is refused.
+fn refusal(alloc: Global, fault: ScriptFault) -> Result<Reply, SimFault>
+    ensures status { IfOk result (λ r. r.status ≡ Status.Refused) }
+    ensures line { IfOk result (λ r. r.text.items ≡ refusal_line fault) }
+    ensures memory { result ≢ Err SimFault.ReadFault }
+{
+    match refusal_text(alloc, &fault) {
+        Ok(text) => Ok(Reply {
+            status: Status::Refused,
+            text,
+        }),
+        Err(Want) => Err(SimFault::Memory),
+    }
+}
+
+// The answer to a script's bytes.
+fn answer(alloc: Global, bytes: &[u8]) -> Result<Reply, SimFault>
+    ensures answer { IfOk result (λ r. IsSimAnswer bytes.now r.status r.text.items) }
+    ensures memory { result ≢ Err SimFault.ReadFault }
+{
+    match read_script(alloc, bytes) {
+        Ok(script) => report(alloc, &script),
+        Err(ScriptFault::Want) => Err(SimFault::Memory),
+        Err(fault) => refusal(alloc, fault),
+    }
+}
+
+/// Simulates the job whose script is the input.
+pub fn sim<S: Source>(alloc: Global, input: &mut S) -> Result<Reply, SimFault>
+    ensures answer { IfOk result (λ r. IfSome (S.left input.old) (λ bytes. IsSimAnswer bytes r.status r.text.items)) }
+    ensures status { IfOk result (λ r. (r.status ≡ Status.Done) ⊎ (r.status ≡ Status.Refused)) }
+    ensures to_end { IfOk result (λ r. r.status ≡ Status.Done → IsAtEnd (S.left input.new)) }
+    ensures risen { IsErrOf result SimFault.ReadFault → HasRisen (S.faults input.old) (S.faults input.new) }
+    ensures calm { result ≢ Err SimFault.ReadFault → S.faults input.new ≡ S.faults input.old }
+{
+    match read_all(alloc, input, SCRIPT_LIMIT) {
+        Ok(bytes) => answer(alloc, &bytes),
+        Err(ReadAllNo::TooLong) => refusal(alloc, ScriptFault::TooLong),
+        Err(ReadAllNo::ReadFault) => Err(SimFault::ReadFault),
+        Err(ReadAllNo::Want) => Err(SimFault::Memory),
+    }
+}

@@ -1,0 +1,28 @@
+//! Numbers and bytes as texts.
+
+ghost use Rattle.std.specs.Prelude.{◌≡◌, ◌++◌, OnOk};
+ghost use Rattle.std.specs.Fmt.{decimal};
+ghost use Rattle.hex.specs.Hex.{encode_lower};
+
+use fs_types::Want;
+use std::alloc::Global;
+
+/// Appends a name and a number.
+pub fn append_number(alloc: Global, out: &mut Vec<u8>, name: &[u8], n: u64) -> Result<(), Want>
+    ensures { OnOk result (out.new.items ≡ out.old.items ++ (name.now ++ decimal n)) }
+{
+    out.extend_from_slice(name)?;
+    let digits = n.to_string(alloc)?;
+    out.extend_from_slice(digits.as_bytes())?;
+    Ok(())
+}
+
+/// Appends a name, and the bytes as two digits each.
+pub fn append_hex(alloc: Global, out: &mut Vec<u8>, name: &[u8], bytes: &[u8]) -> Result<(), Want>
+    ensures { OnOk result (out.new.items ≡ out.old.items ++ (name.now ++ encode_lower bytes.now)) }
+{
+    out.extend_from_slice(name)?;
+    let digits = hex::encode(alloc, bytes)?;
+    out.extend_from_slice(digits.as_bytes())?;
+    Ok(())
+}

@@ -1,0 +1,77 @@
+//! The lines of journals and files.
+
+ghost use Rattle.std.specs.Prelude.{◌≡◌, ◌∷◌, ◌++◌, [], OnOk};
+ghost use Rattle.std.specs.List.{flat_map};
+ghost use Rattle.fs_script.specs.Text.{entry_text, file_line, file_text, flag_text, journal_line};
+ghost use Rattle.top_call.specs.JobReport.{path_text};
+
+use super::parts::{append_hex, append_number};
+use crate::report::PathReport;
+use fs_types::{FileState, LineNo, Path, Want};
+use std::alloc::Global;
+
+fn append_entries(alloc: Global, out: &mut Vec<u8>, journal: &[LineNo]) -> Result<(), Want>
+    ensures { OnOk result (out.new.items ≡ out.old.items ++ flat_map entry_text journal.now) }
+{
+    for line in journal {
+        append_number(alloc, out, b" ", u64::from(line.0))?;
+    }
+    Ok(())
+}
+
+fn append_journal(
+    alloc: Global,
+    out: &mut Vec<u8>,
+    path: &Path,
+    journal: &[LineNo],
+) -> Result<(), Want>
+    ensures { OnOk result (out.new.items ≡ out.old.items ++ journal_line (path.now, journal.now)) }
+{
+    out.extend_from_slice(b"J ")?;
+    out.extend_from_slice(path.as_bytes())?;
+    append_entries(alloc, out, journal)?;
+    out.push(b'\n')?;
+    Ok(())
+}
+
+fn append_state(alloc: Global, out: &mut Vec<u8>, state: &FileState) -> Result<(), Want>
+    ensures { OnOk result (out.new.items ≡ out.old.items ++ file_text state.now) }
+{
+    match state {
+        FileState::Gone => out.extend_from_slice(b" none")?,
+        FileState::Whole { n, frozen, md5 } => {
+            append_number(alloc, out, b" n=", *n)?;
+            out.extend_from_slice(b" frozen=")?;
+            out.push(flag(*frozen))?;
+            append_hex(alloc, out, b" md5=", &md5.0)?;
+        }
+    }
+    Ok(())
+}
+
+fn flag(frozen: bool) -> u8
+    ensures { flag_text frozen ≡ result ∷ [] }
+{
+    if frozen { b'1' } else { b'0' }
+}
+
+fn append_file(alloc: Global, out: &mut Vec<u8>, path: &Path, state: &FileState) -> Result<(), Want>
+    ensures { OnOk result (out.new.items ≡ out.old.items ++ file_line (path.now, state.now)) }
+{
+    out.extend_from_slice(b"F ")?;
+    out.extend_from_slice(path.as_bytes())?;
+    append_state(alloc, out, state)?;
+    out.push(b'\n')?;
+    Ok(())
+}
+
+/// Appends the journal of each path, followed by its file.
+pub fn append_paths(alloc: Global, out: &mut Vec<u8>, paths: &[PathReport]) -> Result<(), Want>
+    ensures { OnOk result (out.new.items ≡ out.old.items ++ flat_map path_text paths.now) }
+{
+    for report in paths {
+        append_journal(alloc, out, &report.path, &report.journal)?;
+        append_file(alloc, out, &report.path, &report.state)?;
+    }
+    Ok(())
+}
