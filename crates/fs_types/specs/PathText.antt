@@ -1,8 +1,7 @@
 -- The grammar of paths: `/unifyfs/`, and then components with a slash between each two.
-use Rattle.std.specs.Prelude.{ℕ, Bool, ◌&&◌, ◌||◌, ◌==◌, nat_le, not, List, length, drop, codes, IsTrue}
+use Rattle.std.specs.Prelude.{ℕ, Bool, ◌&&◌, ◌||◌, ◌==◌, nat_eq, nat_le, not, List, length, drop, codes, IsTrue}
 use Rattle.std.specs.List.{slice_split, list_all, starts_with}
 use Rattle.std.specs.Str.{bytes_eq}
-use Rattle.std.specs.Prelude.{nat_eq}
 
 -- what every path begins with
 abbrev pub mount_point : List ℕ
