@@ -4,3 +4,4 @@ pub mod Paths
 pub mod Kept
 pub mod Legal
 pub mod Five
+pub mod TwoClients

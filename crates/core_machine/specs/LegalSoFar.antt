@@ -2,7 +2,7 @@
 use Rattle.std.specs.Prelude.{◌≡◌, ℕ, ◌<◌, List, [], ◌∷◌, length, map, Some, IsSome, is_some, nat_lt, slice_index}
 use Rattle.std.specs.List.{slice_get, Contains}
 use Rattle.fs_types.specs.Answers.{IsRising}
-use Rattle.fs_script.specs.Job.{Job, op_at, program}
+use Rattle.fs_script.specs.Job.{Job, op_at, phase, program}
 use Rattle.fs_script.specs.Pending.{Answering}
 use Rattle.fs_script.specs.Grammar.{IsJob}
 use Rattle.fs_script.specs.SoFar.{IsLegalSoFar}
@@ -22,6 +22,8 @@ pub record IsLegalMoment (told : List ℕ) (m : Moment) : Type 0 where
   pub places : (r : ℕ) → r < m.job.shape.clients → IsAnsweredUpTo m.job (answering m) r (slice_index m.places r)
   -- nothing but operations has an answer
   pub operations : (n : ℕ) → IsSome (answering m n) → IsSome (op_at m.job n)
+  -- what is of an earlier phase than a line with an answer has an answer
+  pub phases : (k n : ℕ) → IsSome (answering m k) → IsSome (op_at m.job n) → phase m.job n < phase m.job k → IsSome (answering m n)
   pub rising : IsRising m.answers
   pub paths : ArePaths m.job (map (λ j. j.0) m.journals)
   -- what was answered so far is legal

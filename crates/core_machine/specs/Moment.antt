@@ -1,11 +1,11 @@
 -- Moments of a simulated run: how far each client has come, the answers and the journals so far.
-use Rattle.std.specs.Prelude.{◌≡◌, ℕ, ◌-◌, Bool, false, List, [], ◌∷◌, ◌++◌, length, map, filter, sum_by, is_some, replicate, Option, slice_index, if◌then◌else◌}
-use Rattle.std.specs.List.{slice_get, range_with_len, AllByRecursion}
+use Rattle.std.specs.Prelude.{◌≡◌, ℕ, ◌-◌, Bool, false, ◌||◌, nat_le, List, [], ◌∷◌, ◌++◌, length, map, filter, sum_by, is_some, replicate, Option, Some, None, slice_index, if◌then◌else◌}
+use Rattle.std.specs.List.{slice_get, range_with_len, list_all, AllByRecursion}
 use Rattle.std.specs.Str.{bytes_eq}
 use Rattle.fs_types.specs.declared.answer.Answer.{Answer}
 use Rattle.fs_types.specs.Answers.{answer_at}
 use Rattle.fs_types.specs.PlainFile.{File}
-use Rattle.fs_script.specs.Job.{Job, program}
+use Rattle.fs_script.specs.Job.{Job, op_lines, phase, program}
 use Rattle.fs_script.specs.Pending.{Answering}
 use Rattle.fs_script.specs.Effect.{state}
 use Rattle.fs_script.specs.Report.{journal_of, ArePaths}
@@ -36,9 +36,18 @@ file_now m p = state m.job (answering m) (journal m p) (length (journal m p))
 abbrev pub next_line : Moment → ℕ → Option ℕ
 next_line m r = slice_get (program m.job r) (slice_index m.places r)
 
--- the clients that have an event left, ascending; none once memory ran out
+-- whether the phase of line n has begun: each operation has an answer, or is of no earlier phase
+abbrev pub has_begun : Moment → ℕ → Bool
+has_begun m n = list_all (λ k. is_some (answering m k) || nat_le (phase m.job n) (phase m.job k)) (op_lines m.job)
+
+-- whether there is such a line, and its phase has begun
+abbrev pub may_come : Moment → Option ℕ → Bool
+may_come m None = false
+may_come m (Some n) = has_begun m n
+
+-- the clients that have an event left in a phase that has begun, ascending; none once memory ran out
 abbrev pub ready : Moment → List ℕ
-ready m = if m.spent then [] else filter (λ r. is_some (next_line m r)) (range_with_len 0 m.job.shape.clients)
+ready m = if m.spent then [] else filter (λ r. may_come m (next_line m r)) (range_with_len 0 m.job.shape.clients)
 
 -- how many lines of the clients' programs have no answer yet
 abbrev pub events_left : Moment → ℕ

@@ -227,7 +227,7 @@ impl<'s> Core<'s> {
         })
     }
 
-    /// The clients that have an event left, ascending.
+    /// The clients that have an event left in the present phase, ascending.
     pub fn ready(&self) -> &[Rank]
         ensures { result.now ≡ ready self.now }
     {

@@ -1,17 +1,30 @@
 -- Which client waits for its turn in what the core keeps.
-use Rattle.std.proofs.Common.{◌≡◌, ℕ, ◌+◌, ◌-◌, ◌<◌, ◌≤◌, Bool, true, false, cond, ltb, List, [], ◌∷◌, length, refl, sym, ap, ◌∙◌, arith, inl, inr}
+use Rattle.std.proofs.Common.{◌≡◌, ℕ, ◌+◌, ◌-◌, ◌<◌, ◌≤◌, Bool, true, false, cond, ltb, leb, List, [], ◌∷◌, length, Option, Some, None, refl, sym, ap, ◌∙◌, arith, inl, inr}
 use Rattle.std.specs.Prelude.{filter, sum_by, slice_index, is_some}
 use Rattle.std.specs.List.{slice_get, range_with_len, Contains}
-use Rattle.std.proofs.lemmas.Bool.{cases_lt, le-ltb}
+use Rattle.std.proofs.lemmas.Bool.{cases_lt, le-leb, le-ltb, or_right}
 use Rattle.std.proofs.lemmas.Bool.Decides.{nat_tests}
 use Rattle.std.proofs.lemmas.List.FromFn.{length-range_with_len}
 use Rattle.fs_types.specs.Answers.{Given}
-use Rattle.fs_script.specs.Job.{Job, program}
+use Rattle.fs_script.specs.Job.{Job, phase, program}
 use Rattle.fs_script.specs.Grammar.{IsJob}
 use Rattle.core_machine.specs.declared.path_state.PathState.{PathState}
-use Rattle.core_machine.specs.Moment.{ready, events_left, next_line}
+use Rattle.core_machine.specs.Moment.{Moment, answering, has_begun, may_come, ready, events_left, next_line}
 use Rattle.core_machine.specs.Standing.{Holds, moment_of}
+use Rattle.fs_script.proofs.Jobs.{phase-only}
 use Rattle.fs_script.proofs.Programs.{slice_get-range, slice_get-range_past, program-is}
+use Rattle.core_machine.proofs.Legal.Phases.{has_begun-from}
+
+-- of one phase, and it has begun
+begun : (m : Moment) (n : ℕ) → IsJob m.job → has_begun m n ≡ true
+begun m n job = has_begun-from m n (λ k o is.
+    let here = phase-only m.job n job in
+    let there = phase-only m.job k job in
+    or_right (is_some (answering m k)) (leb (phase m.job n) (phase m.job k)) (le-leb (phase m.job n) (phase m.job k) (omega arith)))
+
+may_come-is : (m : Moment) (x : Option ℕ) → IsJob m.job → may_come m x ≡ is_some x
+may_come-is m None job = refl
+may_come-is m (Some n) job = begun m n job
 
 waits : (s : Job) (n : ℕ) → IsJob s → 2 ≤ n → is_some (slice_get (program s 0) (n - 2)) ≡ ltb n (length s.lines + 2)
 waits s n job from =
@@ -25,7 +38,7 @@ pub waiting-is : (s : Job) (paths : List (List ℕ)) (states : List PathState) (
     → ready (moment_of s paths states answers n false) ≡ cond (ltb n (length s.lines + 2)) (0 ∷ []) []
 waiting-is s paths states answers n job from =
     let m = moment_of s paths states answers n false in
-    ap (λ k. filter (λ r. is_some (next_line m r)) (range_with_len 0 k)) job.shape.clients ∙ ap (λ b. cond b (0 ∷ []) []) (waits s n job from)
+    ap (λ k. filter (λ r. may_come m (next_line m r)) (range_with_len 0 k)) job.shape.clients ∙ ap (λ b. cond b (0 ∷ []) []) (may_come-is m (next_line m 0) job ∙ waits s n job from)
 
 none_in : (xs : List ℕ) (r : ℕ) → xs ≡ [] → Contains xs r → ⊥
 none_in [] r is there = (let lt = there.1 in omega arith)

@@ -19,7 +19,7 @@ use Rattle.core_machine.specs.Moment.{Moment, answering, journal, file_now, read
 use Rattle.core_machine.specs.MomentReport.{report_of}
 use Rattle.core_machine.specs.Event.{step_line, step_at, step}
 use Rattle.core_machine.specs.LegalSoFar.{IsLegalMoment, Reaches}
-use Rattle.core_machine.proofs.Legal.Turns.{answered-at_end}
+use Rattle.core_machine.proofs.Legal.Ends.{answered-at_end}
 use Rattle.core_machine.proofs.Legal.Steps.{step-legal}
 
 -- ---- the first moment
@@ -46,6 +46,7 @@ first-legal told s m job first =
           let place = ap (λ ps. slice_index ps r) first.places ∙ get_or-zeros s.shape.clients r in
           ap is_some (none n) ∙ sym (le-ltb k (slice_index m.places r) (omega arith));
       operations = λ n given. absurd (true≢false (sym given ∙ ap is_some (none n)));
+      phases = λ k n given is before. absurd (true≢false (sym given ∙ ap is_some (none k)));
       rising = subst (λ xs. IsRising xs) (sym first.answers) tt;
       paths = subst (λ t. ArePaths t (map (λ j. j.0) m.journals)) (sym first.job) first.paths;
       legal = IsLegalSoFar-none told m.job (answering m) (journal m) none (λ p. empty-journals m.journals p first.journals);

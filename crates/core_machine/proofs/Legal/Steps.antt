@@ -23,7 +23,8 @@ use Rattle.core_machine.specs.LegalSoFar.{IsAnsweredUpTo, IsLegalMoment}
 use Rattle.core_machine.proofs.Legal.Events.{after_commit, IsNext, IsLegalEvent, event_of-legal}
 use Rattle.core_machine.proofs.Legal.Journals.{paths-with_entry, journal_of-with_entry, journal_of-with_entry_other}
 use Rattle.core_machine.proofs.Paths.{other_bytes}
-use Rattle.core_machine.proofs.Legal.Turns.{phase-answered, Turn, Turn-from_ready, step-is, ComesNext-turn, IsAnsweredUpTo-own, IsAnsweredUpTo-other}
+use Rattle.core_machine.proofs.Legal.Phases.{begun-answered, phase-answered}
+use Rattle.core_machine.proofs.Legal.Turns.{Turn, Turn-from_ready, step-is, ComesNext-turn, IsAnsweredUpTo-own, IsAnsweredUpTo-other}
 
 -- ---- the journals
 
@@ -81,6 +82,20 @@ operations-after told m r n o e k i given = elim (cases_eq i n) [
   | inr other ↦ k.so_far.operations i (ap is_some (sym (k.adds.others i other)) ∙ given)
 ]
 
+-- what had an answer has one
+still-answered : (A B : Answering) (n l : ℕ) (a : Answer) → AddsAnswer A n a B → IsSome (A l) → IsSome (B l)
+still-answered A B n l a adds given = elim (cases_eq l n) [
+  | inl is ↦ ap (λ i. is_some (B i)) is ∙ ap is_some adds.added
+  | inr other ↦ ap is_some (adds.others l other) ∙ given
+]
+
+phases-after : (told : List ℕ) (m : Moment) (r n : ℕ) (o : OpLine) (e : Event) → HasEvent told m r n o e → (i j : ℕ) → IsSome (answering (after_event m r n o e) i) → IsSome (op_at m.job j)
+    → phase m.job j < phase m.job i → IsSome (answering (after_event m r n o e) j)
+phases-after told m r n o e k i j given is before = still-answered (answering m) (answering (after_event m r n o e)) n j e.answer k.adds (elim (cases_eq i n) [
+  | inl here ↦ begun-answered m n j k.turn.begun is (subst (λ l. phase m.job j < phase m.job l) here before)
+  | inr other ↦ k.so_far.phases i j (ap is_some (sym (k.adds.others i other)) ∙ given) is before
+])
+
 -- what the line commits is what its event says
 commit-after : (told : List ℕ) (m : Moment) (r n : ℕ) (o : OpLine) (e : Event) → HasEvent told m r n o e
     → commit_by o.op (pending m.job (answering (after_event m r n o e)) o.rank o.path n) (answering (after_event m r n o e) n) ≡ cond e.commits (Some (suc (length (journal m o.path)))) None
@@ -97,7 +112,7 @@ legal-after told m r n o e k =
       op = k.turn.is;
       adds = k.adds;
       next = k.line.next;
-      phases = λ i given. phase-answered m i n k.so_far.job given;
+      phases = λ i given. phase-answered m i n k.so_far.phases k.line.next.fresh (ap is_some k.turn.is) given;
     } in
     grown e.commits told m.job (answering m) (answering (after_event m r n o e)) m.journals n o e.answer here k.so_far.legal (has_journal told m r n o e k) (commit-after told m r n o e k) k.event.enabled
     (record { opened = k.event.opened; version = k.event.version; answer = k.event.answer })
@@ -110,6 +125,7 @@ after_event-legal told m r n o e k = record {
   clients = length-set m.places r (slice_index m.places r + 1) ∙ k.so_far.clients;
   places = places-after told m r n o e k;
   operations = operations-after told m r n o e k;
+  phases = phases-after told m r n o e k;
   rising = IsRisingFrom-put_answer m.answers 0 n e.answer (omega arith) k.so_far.rising;
   paths = subst (λ ps. ArePaths m.job ps) (sym (paths-kept e.commits o.path n m.journals)) k.so_far.paths;
   legal = legal-after told m r n o e k;
@@ -117,10 +133,11 @@ after_event-legal told m r n o e k = record {
 
 turn-legal : (told : List ℕ) (m : Moment) (r n : ℕ) (o : OpLine) → IsLegalMoment told m → Turn m r n o → IsLegalMoment told (after_event m r n o (event_at m n o))
 turn-legal told m r n o so_far turn =
+    let next = ComesNext-turn m r n o turn (so_far.places r turn.within) so_far.operations in
     let line : IsNext told m.job (answering m) (journal m o.path) n o = record {
       is = turn.is;
-      next = ComesNext-turn m r n o turn (so_far.places r turn.within) so_far.operations;
-      later = AllByRecursion-from_get (λ k. phase m.job k ≤ phase m.job n) (journal m o.path) (λ i k at. phase-answered m k n so_far.job (answered-in_journal m.job (answering m) o.path (journal m o.path) i k (so_far.legal.legal o.path) at));
+      next = next;
+      later = AllByRecursion-from_get (λ k. phase m.job k ≤ phase m.job n) (journal m o.path) (λ i k at. phase-answered m k n so_far.phases next.fresh (ap is_some turn.is) (answered-in_journal m.job (answering m) o.path (journal m o.path) i k (so_far.legal.legal o.path) at));
       legal = so_far.legal.legal o.path;
       fit = so_far.legal.fit o.path;
     } in
