@@ -187,12 +187,14 @@ fn journal_of_path<'p>(paths: &PathTable, states: &'p [PathState], p: &Path) -> 
     }
 }
 
-// The file of a path.
+// The file of a path. Once memory ran out what is kept is open, and the answer is the same want.
 fn file_of_path(parts: &Parts<'_>, p: &Path) -> Result<FileState, Want>
-    requires kept { IsKept parts.now }
-    requires unspent { parts.now.spent ≡ false }
+    requires { IsKept parts.now }
     ensures { IfOk result (λ f. f ≡ file_state_of (file_now (moment parts.now) p.now)) }
 {
+    if parts.spent {
+        return Err(Want);
+    }
     match parts.paths.index_of(p) {
         Some(i) => file_state(parts.alloc, parts.script, &parts.states[i]),
         None => Ok(FileState::Gone),
@@ -275,9 +277,8 @@ impl<'s> Core<'s> {
         journal_of_path(&self.parts.paths, &self.parts.states, p)
     }
 
-    /// What a report says of a path's file as it is now.
+    /// What a report says of a path's file as it is now; want of memory where the run is spent.
     pub fn file(&mut self, p: &Path) -> Result<FileState, Want>
-        requires { self.old.spent ≡ false }
         ensures file { IfOk result (λ f. f ≡ file_state_of (file_now self.old p.now)) }
         ensures same { self.new ≡ self.old }
     {

@@ -1,5 +1,3 @@
-ghost use Rattle.std.specs.Prelude.{◌≡◌, false, OnOk};
-
 use super::*;
 use fs_script::{Script, read_script};
 use fs_types::{Answer, Body, FileState, LineNo, Path, Want};
@@ -191,10 +189,7 @@ fn has_answers(alloc: Global, lines: &[u8], expected: &[Expected]) -> Result<boo
 }
 
 // One event of a client that is ready, if there is one.
-fn step_once(core: &mut Core<'_>) -> Result<(), Want>
-    requires { core.old.spent ≡ false }
-    ensures { OnOk result (core.new.spent ≡ false) }
-{
+fn step_once(core: &mut Core<'_>) -> Result<(), Want> {
     match core.ready().first().copied() {
         Some(r) => core.step(r),
         None => Ok(()),

@@ -40,7 +40,6 @@ fn known_path(alloc: Global, bytes: &[u8]) -> Result<Path, Want>
 // What the run reports of the path at place `i` of the byte order.
 fn path_report(alloc: Global, core: &mut Core<'_>, i: usize) -> Result<PathReport, Want>
     requires within { i < length core.old.journals }
-    requires unspent { core.old.spent ≡ false }
     requires rising { AreRising (map (λ j. j.0) core.old.journals) }
     requires paths { (p : List ℕ) → Contains (map (λ j. j.0) core.old.journals) p → IsPath p }
     ensures journal { IfOk result (λ r. slice_get core.old.journals i ≡ Some (journal_entry r)) }
@@ -59,7 +58,6 @@ fn path_report(alloc: Global, core: &mut Core<'_>, i: usize) -> Result<PathRepor
 
 // What the run reports of its paths, in byte order.
 fn path_reports(alloc: Global, core: &mut Core<'_>) -> Result<Vec<PathReport>, Want>
-    requires unspent { core.old.spent ≡ false }
     requires rising { AreRising (map (λ j. j.0) core.old.journals) }
     requires paths { (p : List ℕ) → Contains (map (λ j. j.0) core.old.journals) p → IsPath p }
     ensures journals { IfOk result (λ v. map journal_entry v.items ≡ core.old.journals) }

@@ -7,13 +7,13 @@ use Rattle.core_machine.proofs.machine.file_of_path.Goals as goal
 pub file_state-requires : goal.file_state-requires
 file_state-requires c =
     let p = c.args.parts.now in
-    (Stands-read p.script.now p.paths p.states.items p.answers p.next c.in-Some.i c.args.p.now c.index.result.now (c.requires.kept.holds c.requires.unspent) c.in-Some.ensures.there c.index.ensures).0.sound
+    (Stands-read p.script.now p.paths p.states.items p.answers p.next c.in-Some.i c.args.p.now c.index.result.now (c.requires.holds c.if-parts.false) c.in-Some.ensures.there c.index.ensures).0.sound
 
 pub returns-in-Some : goal.returns-in-Some
 returns-in-Some c =
     let p = c.args.parts.now in
     subst (λ f. IfOk c.file_state.result (λ r. r ≡ file_state_of f))
-    (file-is p.script.now p.paths p.states.items p.answers p.next c.in-Some.i c.args.p.now c.index.result.now (c.requires.kept.holds c.requires.unspent) c.in-Some.ensures.there c.index.ensures)
+    (file-is p.script.now p.paths p.states.items p.answers p.next c.in-Some.i c.args.p.now c.index.result.now (c.requires.holds c.if-parts.false) c.in-Some.ensures.there c.index.ensures)
     c.file_state.ensures
 
 pub returns-in-None : goal.returns-in-None

@@ -5,11 +5,6 @@ use Rattle.top_call.proofs.Runs.{Reaches-unspent, IsPath-named}
 use Rattle.top_call.proofs.JobReports.{report_view-is}
 use Rattle.top_call.proofs.run.simulate.Goals as goal
 
-pub path_reports-requires-clause-unspent : goal.path_reports-requires-clause-unspent
-path_reports-requires-clause-unspent c =
-    let run = c.in_ok-run_to_end.ensures.run in
-    Reaches-unspent c.in_ok-core.core c.run_to_end.new.core run.0 run.1 c.in_ok-core.ensures.first.spent
-
 pub path_reports-requires-clause-rising : goal.path_reports-requires-clause-rising
 path_reports-requires-clause-rising c =
     let run = c.in_ok-run_to_end.ensures.run in
