@@ -2,6 +2,7 @@
 use Rattle.std.proofs.Common.{◌≡◌, ℕ, zero, suc, ◌+◌, ◌<◌, ◌≤◌, List, [], ◌∷◌, length, Some, refl, subst, arith}
 use Rattle.std.specs.List.{slice_get, AllByRecursion}
 use Rattle.std.specs.Prelude.{count_by, take}
+use Rattle.std.proofs.lemmas.Option.{same_Some}
 use Rattle.fs_script.specs.declared.shape.Shape.{Shape}
 use Rattle.fs_script.specs.declared.line.Line.{Line}
 use Rattle.fs_script.specs.declared.line.Line.TheVariants as lines
@@ -9,13 +10,10 @@ use Rattle.fs_script.specs.declared.line.OpLine.{OpLine}
 use Rattle.fs_script.specs.Job.{Job, operation, op_at, is_barrier, phase}
 use Rattle.fs_script.specs.Grammar.{IsJob, IsLine, IsOpLine}
 
-some_is : (o p : OpLine) → operation (Some (lines.Op o)) ≡ Some p → o ≡ p
-some_is o p e = cc
-
 at_head : (h : Shape) (l : Line) (o : OpLine) → IsLine h l → operation (Some l) ≡ Some o → IsOpLine h o
 at_head h lines.Note o is e = absurd is
 at_head h lines.Barrier o is e = absurd is
-at_head h (lines.Op p) o is e = subst (IsOpLine h) (some_is p o e) is
+at_head h (lines.Op p) o is e = subst (IsOpLine h) (same_Some p o e) is
 
 at_place : (h : Shape) (ls : List Line) (k : ℕ) (o : OpLine) → AllByRecursion (IsLine h) ls → operation (slice_get ls k) ≡ Some o → IsOpLine h o
 at_place h [] k o all e = absurd cc

@@ -4,6 +4,7 @@ use Rattle.std.specs.List.{list_all}
 use Rattle.std.specs.Char.{is_ascii_digit, digit_value}
 use Rattle.std.specs.Str.{all_ascii_digits}
 use Rattle.std.specs.Str.Parse.{digits_value}
+use Rattle.std.proofs.lemmas.Bool.{and_parts}
 use Rattle.std.proofs.lemmas.Bool.Decides.{nat_tests}
 use Rattle.std.proofs.lemmas.Int.Digits.{digits_value_more}
 use Rattle.std.proofs.lemmas.Str.Parse.{IsNumeralModel, numerals_by_value, tells_all_ascii_digits, digit_at, digits_value-take-le}
@@ -15,10 +16,6 @@ own = numerals_by_value _ tells_all_ascii_digits
 pub all_ascii_digits_is : (bs : List ℕ) → all_ascii_digits bs ≡ list_all is_ascii_digit bs
 all_ascii_digits_is [] = refl
 all_ascii_digits_is (c ∷ cs) = ap (λ x. is_ascii_digit c && x) (all_ascii_digits_is cs)
-
-pub and_true : (a b : Bool) → (a && b) ≡ true → (a ≡ true) × (b ≡ true)
-and_true true b e = (refl, e)
-and_true false b e = absurd cc
 
 -- what a numeral's digits are worth, one by one
 pub record IsStep (w : List ℕ) (i : ℕ) : Type 0 where
@@ -32,7 +29,7 @@ value_of_digit c low high = grind (arith, nat_tests)
 
 pub is_step : (w : List ℕ) (i : ℕ) → is_numeral w ≡ true → i < length w → IsStep w i
 is_step w i e lt =
-    let digits : all_ascii_digits w ≡ true = (and_true _ _ (and_true _ _ e).0).0 in
+    let digits : all_ascii_digits w ≡ true = (and_parts _ _ (and_parts _ _ e).0).0 in
     let range = digit_at w i (own.to w digits) lt in
     let value : digit_value (get_or w i 0) ≡ get_or w i 0 - 48 = value_of_digit (get_or w i 0) range.0 range.1 in
     record {

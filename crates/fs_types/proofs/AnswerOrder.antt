@@ -7,7 +7,7 @@ use Rattle.fs_types.specs.declared.answer.Answer.{Answer}
 use Rattle.fs_types.proofs.Tables.{answer_at-same, answer_at-other, put_answer-before, put_answer-over, put_answer-after}
 
 -- how a line stands to another
-cases_line : (m n : ℕ) → (m < n) ⊎ ((m ≡ n) ⊎ (n < m))
+pub cases_line : (m n : ℕ) → (m < n) ⊎ ((m ≡ n) ⊎ (n < m))
 cases_line m n = grind arith
 
 -- the answer that is put, by how its line stands to the first

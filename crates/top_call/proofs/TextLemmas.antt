@@ -8,7 +8,7 @@ use Rattle.std.proofs.lemmas.List.Elements.{All-head, All-tail}
 use Rattle.fs_types.specs.Answers.{answer_at, IsRisingFrom}
 use Rattle.fs_types.specs.declared.answer.Answer.{Answer}
 use Rattle.fs_types.proofs.Tables.{answer_at-same, answer_at-other}
-use Rattle.fs_types.proofs.AnswerOrder.{answer_at-rising_below}
+use Rattle.fs_types.proofs.AnswerOrder.{cases_line, answer_at-rising_below}
 use Rattle.fs_script.specs.Text.{path_lines, answer_line, line_feed, text}
 use Rattle.top_call.specs.JobReport.{path_text, report_view}
 use Rattle.top_call.specs.declared.report.JobReport.{JobReport}
@@ -39,10 +39,6 @@ below-all [] n m l h = refl
 below-all ((i, a) ∷ xs) n m l h =
     let first : i ≤ m = All-head (λ (x : ℕ × Answer). x.0 ≤ m) (i, a) xs h in
     below-kept n i a xs (omega arith) ∙ ap (λ ys. (i, a) ∷ ys) (below-all xs n m l (All-tail (λ (x : ℕ × Answer). x.0 ≤ m) (i, a) xs h))
-
--- how a line stands to another
-cases_line : (m n : ℕ) → (m < n) ⊎ ((m ≡ n) ⊎ (n < m))
-cases_line m n = grind arith
 
 -- one line more, where it is the first one
 below-first : (xs : List (ℕ × Answer)) (n : ℕ) (a b : Answer) → IsRisingFrom (suc n) xs → answer_at ((n, b) ∷ xs) n ≡ Some a → answers_below (n + 1) ((n, b) ∷ xs) ≡ answers_below n ((n, b) ∷ xs) ++ (n, a) ∷ []

@@ -4,54 +4,43 @@ use Rattle.std.specs.Prelude.{codes}
 use Rattle.std.specs.List.{join_with_byte}
 use Rattle.std.specs.Str.{bytes_eq}
 use Rattle.std.specs.Fmt.{decimal}
+use Rattle.std.proofs.lemmas.Bool.{and_from, and_parts, eq-eqb, eqb-true, le-leb, leb-true}
+use Rattle.std.proofs.lemmas.Option.{same_Some}
 use Rattle.std.proofs.lemmas.Bool.Decides.{nat_tests}
 use Rattle.std.proofs.lemmas.Slice.Eq.{bytes_eq-Decides}
 use Rattle.fs_script.specs.declared.shape.Shape.{Shape}
 use Rattle.fs_script.specs.Grammar.{header_text, IsShape}
 use Rattle.fs_script.specs.Reading.{◌>>=◌, field_of, words_of, is_shape, checked_shape, shape_of, header_of_words, header_of}
-use Rattle.fs_script.proofs.Number.{and_true}
-use Rattle.fs_script.proofs.Reading.Numbers.{guard, bind_some, some_is, field_is_text, text_is_field}
-use Rattle.fs_script.proofs.Reading.Words.{IsWord, and_holds, is_word-append, is_word-decimal, words_joined, words_again}
+use Rattle.fs_script.proofs.Reading.Numbers.{guard, bind_some, field_is_text, text_is_field}
+use Rattle.fs_script.proofs.Reading.Words.{IsWord, is_word-append, is_word-decimal, words_joined, words_again}
 
 -- ---- the numbers of a shape
 
-pub eqb_is : (a b : ℕ) → (a == b) ≡ true → a ≡ b
-eqb_is a b e = grind (arith, nat_tests)
-
-pub leb_is : (a b : ℕ) → nat_le a b ≡ true → a ≤ b
-leb_is a b e = grind (arith, nat_tests)
-
 pub shape_tested : (h : Shape) → is_shape h ≡ true → IsShape h
 shape_tested h e =
-    let a = and_true _ _ e in
-    let b = and_true _ _ a.0 in
-    let c = and_true _ _ b.0 in
-    let d = and_true _ _ c.0 in
-    let f = and_true _ _ d.0 in
-    let g = and_true _ _ f.0 in
-    let i = and_true _ _ g.0 in
-    let j = and_true _ _ i.0 in
+    let a = and_parts _ _ e in
+    let b = and_parts _ _ a.0 in
+    let c = and_parts _ _ b.0 in
+    let d = and_parts _ _ c.0 in
+    let f = and_parts _ _ d.0 in
+    let g = and_parts _ _ f.0 in
+    let i = and_parts _ _ g.0 in
+    let j = and_parts _ _ i.0 in
     record {
-      servers = eqb_is h.servers 1 j.0;
-      clients = eqb_is h.clients 1 j.1;
-      chunk_least = leb_is 64 h.chunk i.1;
-      chunk_most = leb_is h.chunk 65536 g.1;
-      chunk_whole = eqb_is (h.chunk % 8) 0 f.1;
-      some_slot = leb_is 1 h.shmem d.1;
-      slots = leb_is h.shmem 65536 c.1;
-      slot_bytes = leb_is (h.shmem * h.chunk) 268435456 b.1;
-      spill = eqb_is h.spill 0 a.1;
+      servers = eqb-true h.servers 1 j.0;
+      clients = eqb-true h.clients 1 j.1;
+      chunk_least = leb-true 64 h.chunk i.1;
+      chunk_most = leb-true h.chunk 65536 g.1;
+      chunk_whole = eqb-true (h.chunk % 8) 0 f.1;
+      some_slot = leb-true 1 h.shmem d.1;
+      slots = leb-true h.shmem 65536 c.1;
+      slot_bytes = leb-true (h.shmem * h.chunk) 268435456 b.1;
+      spill = eqb-true h.spill 0 a.1;
     }
-
-pub eqb_holds : (a b : ℕ) → a ≡ b → (a == b) ≡ true
-eqb_holds a b e = grind (arith, nat_tests)
-
-pub leb_holds : (a b : ℕ) → a ≤ b → nat_le a b ≡ true
-leb_holds a b le = grind (arith, nat_tests)
 
 pub shape_passes : (h : Shape) → IsShape h → is_shape h ≡ true
 shape_passes h s =
-    and_holds _ _ (and_holds _ _ (and_holds _ _ (and_holds _ _ (and_holds _ _ (and_holds _ _ (and_holds _ _ (and_holds _ _ (eqb_holds _ _ s.servers) (eqb_holds _ _ s.clients)) (leb_holds _ _ s.chunk_least)) (leb_holds _ _ s.chunk_most)) (eqb_holds _ _ s.chunk_whole)) (leb_holds _ _ s.some_slot)) (leb_holds _ _ s.slots)) (leb_holds _ _ s.slot_bytes)) (eqb_holds _ _ s.spill)
+    and_from _ _ (and_from _ _ (and_from _ _ (and_from _ _ (and_from _ _ (and_from _ _ (and_from _ _ (and_from _ _ (eq-eqb _ _ s.servers) (eq-eqb _ _ s.clients)) (le-leb _ _ s.chunk_least)) (le-leb _ _ s.chunk_most)) (eq-eqb _ _ s.chunk_whole)) (le-leb _ _ s.some_slot)) (le-leb _ _ s.slots)) (le-leb _ _ s.slot_bytes)) (eq-eqb _ _ s.spill)
 
 -- ---- the words of a header
 
@@ -84,7 +73,7 @@ fields_are s c n a b h e =
     let u = bind_some (field_of (codes "spill=") b) (λ spill. checked_shape (record { servers = p.0; clients = q.0; chunk = r.0; shmem = t.0; spill = spill })) h t.2 in
     let made : Shape = record { servers = p.0; clients = q.0; chunk = r.0; shmem = t.0; spill = u.0 } in
     let g = guard (is_shape made) (Some made) h u.2 in
-    subst (λ (k : Shape). AreFields s c n a b k) (some_is made h g.1) (record {
+    subst (λ (k : Shape). AreFields s c n a b k) (same_Some made h g.1) (record {
       shape = shape_tested made g.0;
       servers = (field_is_text (codes "servers=") s p.0 p.1).text;
       clients = (field_is_text (codes "clients=") c q.0 q.1).text;
@@ -103,7 +92,7 @@ words_are (x ∷ y ∷ s ∷ c ∷ n ∷ []) h e = absurd cc
 words_are (x ∷ y ∷ s ∷ c ∷ n ∷ a ∷ []) h e = absurd cc
 words_are (x ∷ y ∷ s ∷ c ∷ n ∷ a ∷ b ∷ []) h e =
     let g = guard (bytes_eq x (codes "unifyfs") && bytes_eq y (codes "1")) (shape_of s c n a b) h e in
-    let t = and_true (bytes_eq x (codes "unifyfs")) (bytes_eq y (codes "1")) g.0 in
+    let t = and_parts (bytes_eq x (codes "unifyfs")) (bytes_eq y (codes "1")) g.0 in
     let name = (bytes_eq-Decides x (codes "unifyfs")).0 t.0 in
     let edition = (bytes_eq-Decides y (codes "1")).0 t.1 in
     let f = fields_are s c n a b h g.1 in

@@ -5,12 +5,14 @@ use Rattle.std.specs.List.{starts_with}
 use Rattle.std.specs.Fmt.{decimal}
 use Rattle.std.specs.Str.{all_ascii_digits}
 use Rattle.std.specs.Str.Parse.{digits_value}
+use Rattle.std.proofs.lemmas.Bool.{and_parts}
+use Rattle.std.proofs.lemmas.Option.{same_Some}
 use Rattle.std.proofs.lemmas.Bool.Decides.{nat_tests, Decides-eqb}
 use Rattle.std.proofs.lemmas.Fmt.{digits_decimal, digits_value-decimal, decimal-digits_value, decimal_digit, decimal_nonempty, first_decimal}
 use Rattle.std.proofs.lemmas.Slice.Eq.{starts_is}
 use Rattle.std.proofs.lemmas.List.{drop_at}
 use Rattle.fs_script.specs.Reading.{◌>>=◌, is_numeral, number_of, field_of}
-use Rattle.fs_script.proofs.Number.{own, and_true, number_is}
+use Rattle.fs_script.proofs.Number.{own, number_is}
 
 pub record IsNumber (w : List ℕ) (n : ℕ) : Type 0 where
   pub below : n < 2 ^ 64
@@ -29,9 +31,6 @@ pub guard : {A : Type 0} (b : Bool) (o : Option A) (y : A) → cond b o None ≡
 guard true o y e = (refl, e)
 guard false o y e = absurd cc
 
-pub some_is : {A : Type 0} (x y : A) → Some x ≡ Some y → x ≡ y
-some_is x y e = cc
-
 -- a step behind another
 pub bind_some : {A B : Type 0} (o : Option A) (f : A → Option B) (y : B) → (o >>= f) ≡ Some y → (x : A) × (o ≡ Some x) × (f x ≡ Some y)
 bind_some (Some x) f y e = (x, refl, e)
@@ -45,9 +44,9 @@ first_is_plain false false P Q p q e h = absurd (cc (q h))
 numeral_parts : (w : List ℕ) (n : ℕ) → number_of w ≡ Some n → Numeral w n
 numeral_parts w n e =
     let g = guard (is_numeral w && nat_lt (digits_value 10 w) (2 ^ 64)) (Some (digits_value 10 w)) n e in
-    let a = and_true (is_numeral w) (nat_lt (digits_value 10 w) (2 ^ 64)) g.0 in
-    let b = and_true _ _ a.0 in
-    let c = and_true _ _ b.0 in
+    let a = and_parts (is_numeral w) (nat_lt (digits_value 10 w) (2 ^ 64)) g.0 in
+    let b = and_parts _ _ a.0 in
+    let c = and_parts _ _ b.0 in
     let lt : digits_value 10 w < 2 ^ 64 = grind (arith, nat_tests, a.1) in
     let some : 0 < length w = grind (arith, nat_tests, c.1) in
     record {
@@ -55,7 +54,7 @@ numeral_parts w n e =
       some = some;
       plain = first_is_plain (length w == 1) (get_or w 0 0 == 48) (length w ≡ 1) (get_or w 0 0 ≡ 48) (Decides-eqb (length w) 1).0 (Decides-eqb (get_or w 0 0) 48).1 b.1;
       below = lt;
-      value = some_is (digits_value 10 w) n g.1;
+      value = same_Some (digits_value 10 w) n g.1;
     }
 
 -- a word that gives a number is its text

@@ -4,6 +4,8 @@ use Rattle.std.specs.Prelude.{nat_eq, codes}
 use Rattle.std.specs.List.{join_with_byte, list_all, AllByRecursion, starts_with}
 use Rattle.std.specs.Str.{bytes_eq}
 use Rattle.std.specs.Fmt.{decimal}
+use Rattle.std.proofs.lemmas.Bool.{and_parts, le-leb, leb-true, lt-ltb, ltb-true}
+use Rattle.std.proofs.lemmas.Option.{same_Some}
 use Rattle.std.proofs.lemmas.Bool.Decides.{nat_tests, Decides-eqb}
 use Rattle.std.proofs.lemmas.Slice.Eq.{bytes_eq-Decides, starts_is}
 use Rattle.fs_types.specs.PathText.{IsPath, is_path}
@@ -18,10 +20,8 @@ use Rattle.fs_script.specs.declared.line.Data.{Data}
 use Rattle.fs_script.specs.declared.line.Data.TheVariants.{Text}
 use Rattle.fs_script.specs.Grammar.{data_text, op_text, line_text, IsData, IsOp, IsOpLine, IsLine, SpellsLine, transfer_limit}
 use Rattle.fs_script.specs.Reading.{◌>>=◌, number_of, words_of, rank_of, path_of, span_of, text_of, data_of, write_of, read_of, op_of_words, op_line_of, line_of_words, line_of}
-use Rattle.fs_script.proofs.Number.{and_true}
-use Rattle.fs_script.proofs.Reading.Numbers.{guard, bind_some, some_is, number_is_text, text_is_number}
+use Rattle.fs_script.proofs.Reading.Numbers.{guard, bind_some, number_is_text, text_is_number}
 use Rattle.fs_script.proofs.Reading.Words.{IsWord, is_word-append, is_word-decimal, is_word-text, is_word-path, words_joined, words_again}
-use Rattle.fs_script.proofs.Reading.Headers.{leb_is, leb_holds}
 
 -- ---- the words of an operation
 
@@ -59,15 +59,15 @@ span_is : (w : List ℕ) (n : ℕ) → span_of w ≡ Some n → (n ≤ transfer_
 span_is w n e =
     let b = bind_some (number_of w) (λ k. cond (nat_le k transfer_limit) (Some k) None) n e in
     let g = guard (nat_le b.0 transfer_limit) (Some b.0) n b.2 in
-    subst (λ k. (k ≤ transfer_limit) × (w ≡ decimal k)) (some_is b.0 n g.1) (leb_is b.0 transfer_limit g.0, (number_is_text w b.0 b.1).text)
+    subst (λ k. (k ≤ transfer_limit) × (w ≡ decimal k)) (same_Some b.0 n g.1) (leb-true b.0 transfer_limit g.0, (number_is_text w b.0 b.1).text)
 
 data_is : (w : List ℕ) (d : Data) → data_of w ≡ Some d → IsData d × (w ≡ data_text d)
 data_is w d e =
     let g = guard (starts_with nat_eq w (codes "t:")) (text_of (drop 2 w)) d e in
     let h = guard (list_all is_text_byte (drop 2 w) && nat_le (length (drop 2 w)) transfer_limit) (Some (Text (drop 2 w))) d g.1 in
-    let t = and_true (list_all is_text_byte (drop 2 w)) (nat_le (length (drop 2 w)) transfer_limit) h.0 in
+    let t = and_parts (list_all is_text_byte (drop 2 w)) (nat_le (length (drop 2 w)) transfer_limit) h.0 in
     let whole : w ≡ codes "t:" ++ drop 2 w = (starts_is Decides-eqb w (codes "t:") (starts_with nat_eq w (codes "t:")) refl).0 g.0 in
-    subst (λ k. IsData k × (w ≡ data_text k)) (some_is (Text (drop 2 w)) d h.1) ((t.0, leb_is (length (drop 2 w)) transfer_limit t.1), whole)
+    subst (λ k. IsData k × (w ≡ data_text k)) (same_Some (Text (drop 2 w)) d h.1) ((t.0, leb-true (length (drop 2 w)) transfer_limit t.1), whole)
 
 -- these words say this operation
 abbrev SaysOp : List ℕ → List (List ℕ) → Op → Type 0
@@ -82,7 +82,7 @@ write_is a b o e =
     let q = bind_some (data_of b) (λ text. Some (ops.Write p.0 text)) o p.2 in
     let n = number_is_text a p.0 p.1 in
     let d = data_is b q.0 q.1 in
-    subst (λ k. SaysOp (codes "write") (a ∷ b ∷ []) k) (some_is (ops.Write p.0 q.0) o q.2) ((n.below, d.0), λ path. same_ends (codes "write") path n.text d.1)
+    subst (λ k. SaysOp (codes "write") (a ∷ b ∷ []) k) (same_Some (ops.Write p.0 q.0) o q.2) ((n.below, d.0), λ path. same_ends (codes "write") path n.text d.1)
 
 read_is : (a b : List ℕ) (o : Op) → read_of a b ≡ Some o → SaysOp (codes "read") (a ∷ b ∷ []) o
 read_is a b o e =
@@ -90,7 +90,7 @@ read_is a b o e =
     let q = bind_some (span_of b) (λ len. Some (ops.Read p.0 len)) o p.2 in
     let n = number_is_text a p.0 p.1 in
     let d = span_is b q.0 q.1 in
-    subst (λ k. SaysOp (codes "read") (a ∷ b ∷ []) k) (some_is (ops.Read p.0 q.0) o q.2) ((n.below, d.0), λ path. same_ends (codes "read") path n.text d.1)
+    subst (λ k. SaysOp (codes "read") (a ∷ b ∷ []) k) (same_Some (ops.Read p.0 q.0) o q.2) ((n.below, d.0), λ path. same_ends (codes "read") path n.text d.1)
 
 -- a choice of two
 choice : {A : Type 0} (b : Bool) (x y : Option A) (z : A) (P : Type 0) → cond b x y ≡ Some z → (b ≡ true → x ≡ Some z → P) → (y ≡ Some z → P) → P
@@ -103,8 +103,8 @@ at_kind kind name ws o e h = subst (λ k. SaysOp k ws o) (sym ((bytes_eq-Decides
 op_is : (kind : List ℕ) (ws : List (List ℕ)) (o : Op) → op_of_words kind ws ≡ Some o → SaysOp kind ws o
 op_is kind [] o e =
     choice (bytes_eq kind (codes "create")) (Some ops.Create) (cond (bytes_eq kind (codes "sync")) (Some ops.Sync) None) o (SaysOp kind [] o) e
-    (λ is found. at_kind kind (codes "create") [] o is (subst (λ k. SaysOp (codes "create") [] k) (some_is ops.Create o found) (tt, λ p. refl)))
-    (λ rest. let g = guard (bytes_eq kind (codes "sync")) (Some ops.Sync) o rest in at_kind kind (codes "sync") [] o g.0 (subst (λ k. SaysOp (codes "sync") [] k) (some_is ops.Sync o g.1) (tt, λ p. refl)))
+    (λ is found. at_kind kind (codes "create") [] o is (subst (λ k. SaysOp (codes "create") [] k) (same_Some ops.Create o found) (tt, λ p. refl)))
+    (λ rest. let g = guard (bytes_eq kind (codes "sync")) (Some ops.Sync) o rest in at_kind kind (codes "sync") [] o g.0 (subst (λ k. SaysOp (codes "sync") [] k) (same_Some ops.Sync o g.1) (tt, λ p. refl)))
 op_is kind (a ∷ []) o e = absurd cc
 op_is kind (a ∷ b ∷ []) o e =
     choice (bytes_eq kind (codes "write")) (write_of a b) (cond (bytes_eq kind (codes "read")) (read_of a b) None) o (SaysOp kind (a ∷ b ∷ []) o) e
@@ -112,19 +112,16 @@ op_is kind (a ∷ b ∷ []) o e =
     (λ rest. let g = guard (bytes_eq kind (codes "read")) (read_of a b) o rest in at_kind kind (codes "read") (a ∷ b ∷ []) o g.0 (read_is a b o g.1))
 op_is kind (a ∷ b ∷ c ∷ ws) o e = absurd cc
 
-ltb_is : (a b : ℕ) → nat_lt a b ≡ true → a < b
-ltb_is a b e = grind (arith, nat_tests)
-
 rank_is : (h : Shape) (w : List ℕ) (r : ℕ) → rank_of h w ≡ Some r → (r < h.clients) × (w ≡ decimal r)
 rank_is h w r e =
     let b = bind_some (number_of w) (λ k. cond (nat_lt k h.clients) (Some k) None) r e in
     let g = guard (nat_lt b.0 h.clients) (Some b.0) r b.2 in
-    subst (λ k. (k < h.clients) × (w ≡ decimal k)) (some_is b.0 r g.1) (ltb_is b.0 h.clients g.0, (number_is_text w b.0 b.1).text)
+    subst (λ k. (k < h.clients) × (w ≡ decimal k)) (same_Some b.0 r g.1) (ltb-true b.0 h.clients g.0, (number_is_text w b.0 b.1).text)
 
 path_is : (w p : List ℕ) → path_of w ≡ Some p → IsPath p × (w ≡ p)
 path_is w p e =
     let g = guard (is_path w) (Some w) p e in
-    subst (λ k. IsPath k × (w ≡ k)) (some_is w p g.1) (g.0, refl)
+    subst (λ k. IsPath k × (w ≡ k)) (same_Some w p g.1) (g.0, refl)
 
 -- these words say this line
 abbrev SaysLine : Shape → List (List ℕ) → Line → Type 0
@@ -144,7 +141,7 @@ words_say h (r ∷ kind ∷ p ∷ ws) l e =
     let made : Line = lines.Op (record { rank = a.0; path = b.0; op = c.0 }) in
     let words : r ∷ kind ∷ p ∷ ws ≡ decimal a.0 ∷ op_words c.0 b.0 = ap (λ w. w ∷ kind ∷ p ∷ ws) rank.1 ∙ ap (λ x. decimal a.0 ∷ x) (op.1 p ∙ ap (λ x. op_words c.0 x) path.1) in
     let text : join_with_byte 32 (r ∷ kind ∷ p ∷ ws) ≡ line_text made = ap (λ x. join_with_byte 32 x) words ∙ sym (line_joined (decimal a.0) b.0 c.0) in
-    subst (λ k. SaysLine h (r ∷ kind ∷ p ∷ ws) k) (some_is made l c.2) (record { rank = rank.0; path = path.0; op = op.0 }, text)
+    subst (λ k. SaysLine h (r ∷ kind ∷ p ∷ ws) k) (same_Some made l c.2) (record { rank = rank.0; path = path.0; op = op.0 }, text)
 
 -- a line that is read is spelled so
 pub line_is_text : (h : Shape) (t : List ℕ) (l : Line) → line_of h t ≡ Some l → SpellsLine h l t
@@ -157,13 +154,10 @@ line_is_text h t l e =
 span_again : (n : ℕ) → n ≤ transfer_limit → span_of (decimal n) ≡ Some n
 span_again n le =
     let lt : n < 2 ^ 64 = omega arith in
-    rw (text_is_number n lt, leb_holds n transfer_limit le) refl
+    rw (text_is_number n lt, le-leb n transfer_limit le) refl
 
 data_again : (d : Data) → IsData d → data_of (data_text d) ≡ Some d
-data_again (Text bytes) h = rw (h.0, leb_holds (length bytes) transfer_limit h.1) refl
-
-ltb_holds : (a b : ℕ) → a < b → nat_lt a b ≡ true
-ltb_holds a b lt = grind (arith, nat_tests)
+data_again (Text bytes) h = rw (h.0, le-leb (length bytes) transfer_limit h.1) refl
 
 op_again : (h : Shape) (r p : List ℕ) (o : Op) → IsOp o → line_of_words h (r ∷ op_words o p) ≡ op_line_of h r p (Some o)
 op_again h r p ops.Create i = refl
@@ -182,7 +176,7 @@ op_line_again h o one i =
     let lt : o.rank < 2 ^ 64 = omega (arith, i.rank) in
     let words : words_of (line_text (lines.Op o)) ≡ decimal o.rank ∷ op_words o.op o.path = ap words_of (line_joined (decimal o.rank) o.path o.op) ∙ words_again (decimal o.rank) (op_words o.op o.path) (is_word-decimal o.rank lt) (words_fit o.path o.op i.op (is_word-path o.path i.path)) in
     let path : is_path o.path ≡ true = i.path in
-    ap (line_of_words h) words ∙ op_again h (decimal o.rank) o.path o.op i.op ∙ rw (text_is_number o.rank lt, ltb_holds o.rank h.clients i.rank, path) refl
+    ap (line_of_words h) words ∙ op_again h (decimal o.rank) o.path o.op i.op ∙ rw (text_is_number o.rank lt, lt-ltb o.rank h.clients i.rank, path) refl
 
 -- a line that is spelled so is read
 pub text_is_line : (h : Shape) (t : List ℕ) (l : Line) → h.clients ≡ 1 → SpellsLine h l t → line_of h t ≡ Some l
