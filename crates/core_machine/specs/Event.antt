@@ -2,7 +2,7 @@
 use Rattle.std.specs.Prelude.{ℕ, ◌+◌, ◌==◌, Bool, true, false, nat_lt, List, length, Option, Some, None, slice_index, slice_set, if◌then◌else◌}
 use Rattle.fs_types.specs.declared.answer.Answer.{Answer}
 use Rattle.fs_types.specs.declared.answer.Answer.TheVariants as answers
-use Rattle.fs_types.specs.Answers.{put_answer}
+use Rattle.fs_types.specs.AnswerList.{put_answer}
 use Rattle.fs_types.specs.Overwrite.{shown}
 use Rattle.fs_types.specs.PlainFile.{File, longest_file}
 use Rattle.fs_script.specs.declared.line.OpLine.{OpLine}

@@ -1,7 +1,7 @@
 -- What holds at every moment of a simulated run, and which moments a run reaches.
 use Rattle.std.specs.Prelude.{◌≡◌, ℕ, ◌<◌, List, [], ◌∷◌, length, map, Some, IsSome, is_some, nat_lt, slice_index}
 use Rattle.std.specs.List.{slice_get, Contains}
-use Rattle.fs_types.specs.Answers.{IsRising}
+use Rattle.fs_types.specs.AnswerList.{IsRising}
 use Rattle.fs_script.specs.Job.{Job, op_at, phase, program}
 use Rattle.fs_script.specs.Pending.{Answering}
 use Rattle.fs_script.specs.Grammar.{IsJob}

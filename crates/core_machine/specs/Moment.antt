@@ -3,7 +3,7 @@ use Rattle.std.specs.Prelude.{◌≡◌, ℕ, ◌-◌, Bool, false, ◌||◌, na
 use Rattle.std.specs.List.{slice_get, range_with_len, list_all, AllByRecursion}
 use Rattle.std.specs.Str.{bytes_eq}
 use Rattle.fs_types.specs.declared.answer.Answer.{Answer}
-use Rattle.fs_types.specs.Answers.{answer_at}
+use Rattle.fs_types.specs.AnswerList.{answer_at}
 use Rattle.fs_types.specs.PlainFile.{File}
 use Rattle.fs_script.specs.Job.{Job, op_lines, phase, program}
 use Rattle.fs_script.specs.Pending.{Answering}

@@ -1,7 +1,7 @@
 -- When what the core keeps for the paths of a job stands for the answers and the journals so far.
 use Rattle.std.specs.Prelude.{◌≡◌, ℕ, ◌<◌, ◌≤◌, ◌+◌, ◌-◌, Bool, false, List, [], ◌∷◌, length, map, Option, Some, None}
 use Rattle.std.specs.List.{slice_get, zip, range_with_len, AllByRecursion}
-use Rattle.fs_types.specs.Answers.{Given, answer_at}
+use Rattle.fs_types.specs.AnswerList.{Given, answer_at}
 use Rattle.fs_types.specs.PlainFile.{File}
 use Rattle.fs_script.specs.Job.{Job}
 use Rattle.fs_script.specs.Payload.{bytes_of}

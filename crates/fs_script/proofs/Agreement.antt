@@ -4,7 +4,7 @@ use Rattle.std.proofs.Common.{◌≡◌, ℕ, zero, suc, ◌≤◌, List, Option
 use Rattle.std.proofs.lemmas.Bool.{cond_both}
 use Rattle.std.proofs.lemmas.Bool.Decides.{nat_tests}
 use Rattle.fs_types.specs.declared.answer.Answer.{Answer}
-use Rattle.fs_types.specs.Answers.{answer_at, put_answer}
+use Rattle.fs_types.specs.AnswerList.{answer_at, put_answer}
 use Rattle.fs_types.specs.PlainFile.{File}
 use Rattle.fs_types.proofs.AnswerOrder.{answer_at-put_answer}
 use Rattle.fs_script.specs.declared.line.Op.{Op}

@@ -4,7 +4,7 @@ use Rattle.std.specs.List.{filter, range_with_len}
 use Rattle.std.proofs.lemmas.Bool.{cond_both, cases_eq}
 use Rattle.std.proofs.lemmas.Option.{none-some}
 use Rattle.fs_types.specs.declared.answer.Answer.{Answer}
-use Rattle.fs_types.specs.Answers.{answer_at, IsRisingFrom}
+use Rattle.fs_types.specs.AnswerList.{answer_at, IsRisingFrom}
 use Rattle.fs_types.proofs.Tables.{answer_at-same, answer_at-other}
 use Rattle.fs_types.proofs.AnswerOrder.{answer_at-rising_below}
 

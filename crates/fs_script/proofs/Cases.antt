@@ -5,7 +5,7 @@ use Rattle.std.proofs.lemmas.Option.{none-some, same_Some}
 use Rattle.fs_types.specs.declared.answer.Answer.{Answer}
 use Rattle.fs_types.specs.declared.answer.Answer.TheVariants as answers
 use Rattle.fs_types.specs.declared.answer.Body.TheVariants as bodies
-use Rattle.fs_types.specs.Answers.{answer_at}
+use Rattle.fs_types.specs.AnswerList.{answer_at}
 use Rattle.fs_script.specs.declared.line.Line.TheVariants as lines
 use Rattle.fs_script.specs.declared.line.OpLine.{OpLine}
 use Rattle.fs_script.specs.declared.line.Op.TheVariants as ops
@@ -56,14 +56,14 @@ idle_sync_fits : Fits-empty 4 (on_a ops.Sync) (answers.Done 1)
 idle_sync_fits = record {
   opened = refl;
   version = record { front = omega arith; length = omega arith; no_later = (record { phase = omega arith; own = λ _. omega arith }, tt) };
-  answer = refl;
+  answer = (refl, refl);
 }
 
 refused_create_fits : Fits-empty 5 (on_a ops.Create) (answers.Exists 1)
 refused_create_fits = record {
   opened = tt;
   version = record { front = omega arith; length = omega arith; no_later = (record { phase = omega arith; own = λ _. omega arith }, tt) };
-  answer = refl;
+  answer = (refl, refl);
 }
 
 empty_entries : (k n : ℕ) → slice_get {X = ℕ} (2 ∷ []) k ≡ Some n → IsLegalEntry empty_write empty_answers path_a (2 ∷ []) k n

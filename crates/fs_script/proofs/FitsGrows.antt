@@ -1,25 +1,25 @@
 -- An answer that fits goes on fitting: as answers come that change nothing before its line or pending at the journal's lines,
 -- and as the journal grows at its end by lines of no earlier phase.
-use Rattle.std.proofs.Common.{◌≡◌, ℕ, zero, suc, ◌≤◌, Bool, true, false, IsTrue, List, [], ◌∷◌, ◌++◌, length, Option, Some, None, IsSome, IsNone, IfSome, IsSomeAnd, MatchBool, ◌==◌, slice_get, sym, ◌∙◌, subst, append-nil, append_assoc, arith}
+use Rattle.std.proofs.Common.{◌≡◌, ℕ, zero, suc, ◌≤◌, Bool, true, false, IsTrue, List, [], ◌∷◌, ◌++◌, length, Option, Some, None, IsSome, IsNone, IfSome, MatchBool, slice_get, sym, subst, append-nil, append_assoc, arith}
 use Rattle.std.specs.List.{AllByRecursion}
 use Rattle.std.proofs.lemmas.Option.{none-some}
 use Rattle.std.proofs.lemmas.List.{take-append-le, length_push}
 use Rattle.fs_types.specs.declared.answer.Answer.{Answer}
 use Rattle.fs_types.specs.declared.answer.Answer.TheVariants as answers
-use Rattle.fs_types.specs.Overwrite.{shown}
-use Rattle.fs_types.specs.PlainFile.{File, is_open_to_change}
+use Rattle.fs_types.specs.PlainFile.{File, is_open_to_change, is_frozen}
 use Rattle.fs_script.specs.declared.line.OpLine.{OpLine}
 use Rattle.fs_script.specs.declared.line.Op.{Op}
-use Rattle.fs_script.specs.declared.line.Op.TheVariants as ops
 use Rattle.fs_script.specs.Job.{Job, phase}
-use Rattle.fs_script.specs.Payload.{bytes_of}
+use Rattle.fs_script.specs.Payload.{Write, brought, bytes_of}
+use Rattle.fs_script.specs.Operations.{asked, commits}
+use Rattle.fs_script.specs.AnswerKinds.{version_of}
 use Rattle.fs_script.specs.Pending.{Answering}
 use Rattle.fs_script.specs.Effect.{state}
-use Rattle.fs_script.specs.Front.{version_of, front}
-use Rattle.fs_script.specs.Fits.{IsNoLater, IsInReach, entry, AreTold, Shows, AgreesWithOpen, View, view_of, MayWrite, Answers, Fits}
+use Rattle.fs_script.specs.Front.{front}
+use Rattle.fs_script.specs.Fits.{IsNoLater, IsInReach, entry, AreTold, AgreesWithOpen, LineView, line_view, MayWrite, IsAtFront, Accepts, EndsPast, ShowsRange, IsInTable, Fits}
 use Rattle.fs_script.specs.Growth.{AgreeBefore, SamePending}
 use Rattle.fs_script.proofs.Agreement.{pending-agree, is_open-agree}
-use Rattle.fs_script.proofs.States.{state_in-agree, state_in-push, state_in-longer-keeps, state_in-open}
+use Rattle.fs_script.proofs.States.{state_in-agree, state_in-push}
 use Rattle.fs_script.proofs.Fronts.{front-agree, front-push}
 
 -- ---- answers come
@@ -36,8 +36,8 @@ IfSome-agree s A B J n o None h reach = tt
 IfSome-agree s A B J n o (Some v) h reach = IsInReach-agree s A B J n o v h reach
 
 -- what an answer is checked against is the same
-view_of-agree : (s : Job) (A B : Answering) (J : List ℕ) (n : ℕ) (o : OpLine) → AgreeBefore s o.rank o.path A B n → SamePending s A B J → view_of s A J n o ≡ view_of s B J n o
-view_of-agree s A B J n o h same i = record {
+line_view-agree : (s : Job) (A B : Answering) (J : List ℕ) (n : ℕ) (o : OpLine) → AgreeBefore s o.rank o.path A B n → SamePending s A B J → line_view s A J n o ≡ line_view s B J n o
+line_view-agree s A B J n o h same i = record {
   number = n;
   journal = J;
   file = λ v. state_in-agree s (bytes_of s) A B J v same i;
@@ -52,7 +52,7 @@ pub Fits-agree : (told : List ℕ) (s : Job) (A B : Answering) (J : List ℕ) (n
 Fits-agree told s A B J n o a h same fits = record {
   opened = subst (λ b. AgreesWithOpen o.op b a) (is_open-agree s o.rank o.path A B n h) fits.opened;
   version = IfSome-agree s A B J n o (version_of a) h fits.version;
-  answer = subst (λ w. Answers (AreTold s told) w o.op a) (view_of-agree s A B J n o h same) fits.answer;
+  answer = subst (λ w. IsInTable (AreTold s told) w o.op a) (line_view-agree s A B J n o h same) fits.answer;
 }
 
 -- ---- the journal grows
@@ -86,28 +86,36 @@ MatchBool-push : {P Q R S : Type 0} (b : Bool) → (P → R) → (Q → S) → M
 MatchBool-push true f g h = f h
 MatchBool-push false f g h = g h
 
+-- a longer journal, and the file that each version has in it
+abbrev longer_view : LineView → List ℕ → (ℕ → File ℕ) → LineView
+longer_view w K g = record w { journal = K; file = g }
+
+Accepts-push : (w : LineView) (K : List ℕ) (g : ℕ → File ℕ) (x : Option Write) (slots : ℕ) → (MayWrite w → MayWrite (longer_view w K g)) → Accepts w x slots → Accepts (longer_view w K g) x slots
+Accepts-push w K g None slots writes h = h
+Accepts-push w K g (Some x) slots writes h = (writes h.0, h.1, h.2)
+
+EndsPast-push : (w : LineView) (K : List ℕ) (g : ℕ → File ℕ) (x : Option Write) → (MayWrite w → MayWrite (longer_view w K g)) → EndsPast w x → EndsPast (longer_view w K g) x
+EndsPast-push w K g None writes h = h
+EndsPast-push w K g (Some x) writes h = (writes h.0, h.1)
+
+IsAtFront-push : (w : LineView) (K : List ℕ) (g : ℕ → File ℕ) (x : Option Write) (v : ℕ) → IsAtFront w x v → IsAtFront (longer_view w K g) x v
+IsAtFront-push w K g None v h = h
+IsAtFront-push w K g (Some x) v h = h
+
 -- with a longer journal, the same files at the versions that an answer prints, and no file taken from a writer
-Answers-push : (compared : Type 0) (w : View) (K : List ℕ) (g : ℕ → File ℕ) (op : Op) (a : Answer)
-    → ((v n : ℕ) → entry w.journal v ≡ Some n → entry K v ≡ Some n)
-    → IfSome (version_of a) (λ v. g v ≡ w.file v)
-    → (MayWrite w → IsTrue (is_open_to_change (g w.front)))
-    → Answers compared w op a → Answers compared (record w { journal = K; file = g }) op a
-Answers-push compared w K g ops.Create (answers.Done v) entries file writes h = entries v w.number h
-Answers-push compared w K g ops.Create (answers.Exists v) entries file writes h = subst (λ f. IsSome f) (sym file) h
-Answers-push compared w K g ops.Create a entries file writes h = absurd h
-Answers-push compared w K g (ops.Write off text) answers.BadF entries file writes h = tt
-Answers-push compared w K g (ops.Write off text) (answers.NoEnt v) entries file writes h = (h.0, subst (λ f. IsNone f) (sym file) h.1)
-Answers-push compared w K g (ops.Write off text) answers.TooBig entries file writes h = (writes h.0, h.1)
-Answers-push compared w K g (ops.Write off text) (answers.Wrote slots) entries file writes h = (writes h.0, h.1, h.2)
-Answers-push compared w K g (ops.Write off text) a entries file writes h = absurd h
-Answers-push compared w K g ops.Sync answers.BadF entries file writes h = tt
-Answers-push compared w K g ops.Sync (answers.NoEnt v) entries file writes h = subst (λ f. IsNone f) (sym file) h
-Answers-push compared w K g ops.Sync (answers.Done v) entries file writes h = MatchBool-push (length w.pending == 0) (λ k. subst (λ f. IsSome f) (sym file) k) (λ k. entries v w.number k) h
-Answers-push compared w K g ops.Sync a entries file writes h = absurd h
-Answers-push compared w K g (ops.Read off len) answers.BadF entries file writes h = tt
-Answers-push compared w K g (ops.Read off len) (answers.NoEnt v) entries file writes h = subst (λ f. IsNone f) (sym file) h
-Answers-push compared w K g (ops.Read off len) (answers.Shown v n body) entries file writes h = subst (λ f. IsSomeAnd f (λ x. Shows compared (shown x.cells off len) n body)) (sym file) h
-Answers-push compared w K g (ops.Read off len) a entries file writes h = absurd h
+IsInTable-push : (compared : Type 0) (w : LineView) (K : List ℕ) (g : ℕ → File ℕ) (op : Op) (a : Answer)
+    → ((v n : ℕ) → entry w.journal v ≡ Some n → entry K v ≡ Some n) → IfSome (version_of a) (λ v. g v ≡ w.file v) → (MayWrite w → MayWrite (longer_view w K g))
+    → IsInTable compared w op a → IsInTable compared (longer_view w K g) op a
+IsInTable-push compared w K g op (answers.Done v) entries file writes h =
+    MatchBool-push (commits op w.pending) (entries v w.number) (λ k. (k.0, subst (λ f. IsSome f) (sym file) k.1)) h
+IsInTable-push compared w K g op (answers.Wrote slots) entries file writes h = Accepts-push w K g (brought op) slots writes h
+IsInTable-push compared w K g op (answers.Shown v n body) entries file writes h = subst (λ f. ShowsRange compared (asked op) f n body) (sym file) h
+IsInTable-push compared w K g op answers.BadF entries file writes h = h
+IsInTable-push compared w K g op (answers.Exists v) entries file writes h = (h.0, subst (λ f. IsSome f) (sym file) h.1)
+IsInTable-push compared w K g op (answers.NoEnt v) entries file writes h = (h.0, IsAtFront-push w K g (brought op) v h.1, subst (λ f. IsNone f) (sym file) h.2)
+IsInTable-push compared w K g op (answers.ReadOnly v) entries file writes h =
+    (h.0, IsAtFront-push w K g (brought op) v h.1, subst (λ f. IsTrue (is_frozen f)) (sym file) h.2)
+IsInTable-push compared w K g op answers.TooBig entries file writes h = EndsPast-push w K g (brought op) writes h
 
 Fits-push_from : (told : List ℕ) (s : Job) (A : Answering) (J : List ℕ) (m n : ℕ) (o : OpLine) (a : Answer) → phase s n ≤ phase s m
     → (IsTrue (is_open_to_change (state s A J (front s A J o.rank o.path n))) → IsTrue (is_open_to_change (state s A (J ++ m ∷ []) (front s A J o.rank o.path n))))
@@ -117,8 +125,8 @@ Fits-push_from told s A J m n o a later writes fits =
     record {
       opened = fits.opened;
       version = IfSome-push s A J m n o (version_of a) later fits.version;
-      answer = subst (λ k. Answers (AreTold s told) (record (view_of s A (J ++ m ∷ []) n o) { front = k }) o.op a) (sym same)
-          (Answers-push (AreTold s told) (view_of s A J n o) (J ++ m ∷ []) (state s A (J ++ m ∷ [])) o.op a
+      answer = subst (λ k. IsInTable (AreTold s told) (record (line_view s A (J ++ m ∷ []) n o) { front = k }) o.op a) (sym same)
+          (IsInTable-push (AreTold s told) (line_view s A J n o) (J ++ m ∷ []) (state s A (J ++ m ∷ [])) o.op a
           (λ v k. entry-push J m v k) (version-state-push s A J m n o (version_of a) fits.version) writes fits.answer);
     }
 
@@ -143,10 +151,3 @@ Fits-append told s A J (m ∷ K) n o a later within fits =
     let size = length_push J m in
     let pushed = Fits-push told s A J m n o a later.0 within fits in
     subst (λ L. Fits told s A L n o a) (append_assoc J (m ∷ []) K) (Fits-append told s A (J ++ m ∷ []) K n o a later.1 (omega arith) pushed)
-
--- ---- no operation takes a file away, so the front needn't be within the journal
-
-state-open-push : (s : Job) (A : Answering) (J : List ℕ) (m v : ℕ) → IsTrue (is_open_to_change (state s A J v)) → IsTrue (is_open_to_change (state s A (J ++ m ∷ []) v))
-state-open-push s A J m v h =
-    let c = bytes_of s in
-    state_in-open s c A (J ++ m ∷ []) v ∙ state_in-longer-keeps s c A J (m ∷ []) v (sym (state_in-open s c A J v) ∙ h)

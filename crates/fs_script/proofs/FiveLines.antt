@@ -18,7 +18,7 @@ use Rattle.fs_script.specs.Front.{front}
 use Rattle.fs_script.specs.Fits.{Fits}
 use Rattle.fs_script.specs.Journal.{committed, IsLegalEntry, IsLegalJournal}
 use Rattle.fs_script.specs.Reading.{job_of}
-use Rattle.fs_types.specs.Answers.{answer_at}
+use Rattle.fs_types.specs.AnswerList.{answer_at}
 
 abbrev pub path_a : List ℕ
 path_a = codes "/unifyfs/a"

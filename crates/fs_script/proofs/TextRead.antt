@@ -83,6 +83,7 @@ answer_words (answers.Shown v n body) = codes "ok" ∷ (codes "v=" ++ decimal v)
 answer_words answers.BadF = codes "badf" ∷ []
 answer_words (answers.Exists v) = codes "exists" ∷ (codes "v=" ++ decimal v) ∷ []
 answer_words (answers.NoEnt v) = codes "noent" ∷ (codes "v=" ++ decimal v) ∷ []
+answer_words (answers.ReadOnly v) = codes "readonly" ∷ (codes "v=" ++ decimal v) ∷ []
 answer_words answers.TooBig = codes "toobig" ∷ []
 
 -- two words, the second of them a number with its name
@@ -104,6 +105,7 @@ HasWords-answer_text (answers.Shown v n body) h =
 HasWords-answer_text answers.BadF h = HasWords-one (codes "badf") refl
 HasWords-answer_text (answers.Exists v) h = two_words (codes "exists") (codes "v=") v refl refl h
 HasWords-answer_text (answers.NoEnt v) h = two_words (codes "noent") (codes "v=") v refl refl h
+HasWords-answer_text (answers.ReadOnly v) h = two_words (codes "readonly") (codes "v=") v refl refl h
 HasWords-answer_text answers.TooBig h = HasWords-one (codes "toobig") refl
 
 -- the text of a body reads as the body
@@ -123,6 +125,7 @@ read_answer-words (answers.Shown v n body) h =
 read_answer-words answers.BadF h = refl
 read_answer-words (answers.Exists v) h = ap answers.Exists (number-decimal v h)
 read_answer-words (answers.NoEnt v) h = ap answers.NoEnt (number-decimal v h)
+read_answer-words (answers.ReadOnly v) h = ap answers.ReadOnly (number-decimal v h)
 read_answer-words answers.TooBig h = refl
 
 -- the line of an answer reads as one more answer

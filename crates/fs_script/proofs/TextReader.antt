@@ -32,6 +32,7 @@ read_answer (kind ∷ []) = if slice_index kind 0 == 98 then answers.BadF else a
 read_answer (kind ∷ v ∷ []) =
     if slice_index kind 0 == 101 then answers.Exists (number (drop 2 v))
     else if slice_index kind 0 == 110 then answers.NoEnt (number (drop 2 v))
+    else if slice_index kind 0 == 114 then answers.ReadOnly (number (drop 2 v))
     else if slice_index v 0 == 115 then answers.Wrote (number (drop 6 v))
     else answers.Done (number (drop 2 v))
 read_answer (kind ∷ v ∷ n ∷ []) = answers.BadF

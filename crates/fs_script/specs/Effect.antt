@@ -13,21 +13,28 @@ abbrev pub put_lines : {X : Type 0} → Job → Cells X → List ℕ → List X 
 put_lines s c [] xs = xs
 put_lines s c (n ∷ ns) xs = put_lines s c ns (written c.blank xs (offset s n) (c.of_line n))
 
--- an operation's effect on a file, with these lines pending; where it isn't enabled, the file stays
-abbrev pub effect_of : {X : Type 0} → Job → Cells X → Op → List ℕ → File X → File X
-effect_of s c ops.Create q None = Some (record { cells = []; frozen = false })
-effect_of s c ops.Create q (Some f) = Some f
-effect_of s c ops.Sync q None = None
-effect_of s c ops.Sync q (Some f) = if f.frozen then Some f else Some (record { cells = put_lines s c q f.cells; frozen = false })
-effect_of s c (ops.Write off text) q f = f
-effect_of s c (ops.Read off len) q f = f
+-- a file with what these lines bring put over it
+abbrev pub with_lines : {X : Type 0} → Job → Cells X → List ℕ → File X → File X
+with_lines s c q None = None
+with_lines s c q (Some f) = Some (record { cells = put_lines s c q f.cells; frozen = f.frozen })
 
 -- whether an operation may be committed over this file
 abbrev pub is_enabled : {X : Type 0} → Op → File X → Bool
 is_enabled ops.Create f = not (is_some f)
-is_enabled ops.Sync f = is_open_to_change f
 is_enabled (ops.Write off text) f = false
+is_enabled ops.Sync f = is_open_to_change f
 is_enabled (ops.Read off len) f = false
+
+-- what it makes of the file then, with these lines pending
+abbrev pub makes : {X : Type 0} → Job → Cells X → Op → List ℕ → File X → File X
+makes s c ops.Create q f = Some (record { cells = []; frozen = false })
+makes s c (ops.Write off text) q f = f
+makes s c ops.Sync q f = with_lines s c q f
+makes s c (ops.Read off len) q f = f
+
+-- an operation's effect on a file, with these lines pending; where it isn't enabled, the file stays
+abbrev pub effect_of : {X : Type 0} → Job → Cells X → Op → List ℕ → File X → File X
+effect_of s c op q f = if is_enabled op f then makes s c op q f else f
 
 abbrev pub effect_in : {X : Type 0} → Job → Cells X → Option OpLine → List ℕ → File X → File X
 effect_in s c None q f = f

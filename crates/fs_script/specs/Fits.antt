@@ -1,21 +1,23 @@
 -- Which answer a line may have, for a journal of its path: the table of answers.
-use Rattle.std.specs.Prelude.{◌≡◌, ℕ, zero, suc, ◌+◌, ◌≤◌, ◌<◌, nat_le, Bool, true, false, IsTrue, List, length, take, Option, Some, None, IsSome, IsNone, IfSome, IsSomeAnd, ◌==◌, ◌⊎◌, MatchBool, if◌then◌else◌}
+use Rattle.std.specs.Prelude.{◌≡◌, ℕ, zero, suc, ◌+◌, ◌≤◌, ◌<◌, nat_le, Bool, false, not, IsTrue, List, length, take, Option, Some, None, IsSome, IsNone, IfSome, ◌⊎◌, is_some, MatchBool, if◌then◌else◌}
 use Rattle.std.specs.List.{slice_get, AllByRecursion, Contains}
 use Rattle.md5.specs.Md5.{md5}
 use Rattle.fs_types.specs.declared.answer.Answer.{Answer}
 use Rattle.fs_types.specs.declared.answer.Answer.TheVariants as answers
 use Rattle.fs_types.specs.declared.answer.Body.{Body}
 use Rattle.fs_types.specs.declared.answer.Body.TheVariants as bodies
+use Rattle.fs_types.specs.declared.limits.TheConstants.{LONGEST_FILE, HEX_LIMIT}
 use Rattle.fs_types.specs.Overwrite.{shown}
-use Rattle.fs_types.specs.PlainFile.{File, longest_file, is_open_to_change}
+use Rattle.fs_types.specs.PlainFile.{File, is_open_to_change, is_frozen}
 use Rattle.fs_script.specs.declared.line.OpLine.{OpLine}
 use Rattle.fs_script.specs.declared.line.Op.{Op}
-use Rattle.fs_script.specs.declared.line.Op.TheVariants as ops
 use Rattle.fs_script.specs.Job.{Job, rank_at, phase}
-use Rattle.fs_script.specs.Payload.{data_bytes, parts_of}
+use Rattle.fs_script.specs.Payload.{Write, brought, parts_of}
+use Rattle.fs_script.specs.Operations.{Range, asked, needs_open, needs_file, needs_no_file, needs_unfrozen, commits, finds_file}
+use Rattle.fs_script.specs.AnswerKinds.{version_of, is_badf}
 use Rattle.fs_script.specs.Pending.{Answering, pending}
 use Rattle.fs_script.specs.Effect.{state}
-use Rattle.fs_script.specs.Front.{version_of, front, is_open}
+use Rattle.fs_script.specs.Front.{front, is_open}
 
 -- a line of a client's phase or an earlier one, and no later line of that client
 pub record IsNoLater (s : Job) (r n m : ℕ) : Type 0 where
@@ -37,23 +39,21 @@ entry J (suc k) = slice_get J k
 abbrev pub AreTold : Job → List ℕ → Type 0
 AreTold s told = (s.shape.spill ≡ 0) ⊎ ((r : ℕ) → r < s.shape.clients → Contains told r)
 
--- how an answer shows some bytes: as they are, or by their digest where they are more than 32
+-- how an answer shows some bytes: as they are, or by their digest where they are more
 abbrev pub body_of : List ℕ → Body
-body_of bytes = if nat_le (length bytes) 32 then bodies.Hex bytes else bodies.Md5 (md5 bytes)
+body_of bytes = if nat_le (length bytes) HEX_LIMIT then bodies.Hex bytes else bodies.Md5 (md5 bytes)
 
 -- n and the body are those of the bytes shown
 pub record Shows (compared : Type 0) (bytes : List ℕ) (n : ℕ) (body : Body) : Type 0 where
   pub count : n ≡ length bytes
   pub same : compared → body ≡ body_of bytes
 
--- BadF comes exactly where the path isn't open, but a create needs no open path
+-- BadF comes exactly where the path isn't open, at an operation that needs it open
 abbrev pub AgreesWithOpen : Op → Bool → Answer → Type 0
-AgreesWithOpen ops.Create is_open a = Unit {0}
-AgreesWithOpen op is_open answers.BadF = is_open ≡ false
-AgreesWithOpen op is_open a = is_open ≡ true
+AgreesWithOpen op is_open a = MatchBool (needs_open op) (is_badf a ≡ not is_open) (Unit {0})
 
 -- what a line's answer is checked against: f is the file at each version, now the front, q the pending lines
-pub record View : Type 0 where
+pub record LineView : Type 0 where
   pub number : ℕ
   pub journal : List ℕ
   pub file : ℕ → File ℕ
@@ -61,8 +61,8 @@ pub record View : Type 0 where
   pub pending : List ℕ
   pub chunk : ℕ
 
-abbrev pub view_of : Job → Answering → List ℕ → ℕ → OpLine → View
-view_of s A J n o = record {
+abbrev pub line_view : Job → Answering → List ℕ → ℕ → OpLine → LineView
+line_view s A J n o = record {
   number = n;
   journal = J;
   file = state s A J;
@@ -71,30 +71,46 @@ view_of s A J n o = record {
   chunk = s.shape.chunk;
 }
 
-abbrev pub MayWrite : View → Type 0
+-- the file at the front may be written
+abbrev pub MayWrite : LineView → Type 0
 MayWrite w = IsTrue (is_open_to_change (w.file w.front))
 
--- the answers of each operation, each with the condition under which it may come
-abbrev pub Answers : Type 0 → View → Op → Answer → Type 0
-Answers compared w ops.Create (answers.Done v) = entry w.journal v ≡ Some w.number
-Answers compared w ops.Create (answers.Exists v) = IsSome (w.file v)
-Answers compared w ops.Create a = ⊥
-Answers compared w (ops.Write off text) answers.BadF = Unit {0}
-Answers compared w (ops.Write off text) (answers.NoEnt v) = (v ≡ w.front) × IsNone (w.file v)
-Answers compared w (ops.Write off text) answers.TooBig = MayWrite w × (longest_file < off + length (data_bytes text))
-Answers compared w (ops.Write off text) (answers.Wrote slots) = MayWrite w × (off + length (data_bytes text) ≤ longest_file) × (slots ≡ parts_of w.chunk (length (data_bytes text)))
-Answers compared w (ops.Write off text) a = ⊥
-Answers compared w ops.Sync answers.BadF = Unit {0}
-Answers compared w ops.Sync (answers.NoEnt v) = IsNone (w.file v)
-Answers compared w ops.Sync (answers.Done v) = MatchBool (length w.pending == 0) (IsSome (w.file v)) (entry w.journal v ≡ Some w.number)
-Answers compared w ops.Sync a = ⊥
-Answers compared w (ops.Read off len) answers.BadF = Unit {0}
-Answers compared w (ops.Read off len) (answers.NoEnt v) = IsNone (w.file v)
-Answers compared w (ops.Read off len) (answers.Shown v n body) = IsSomeAnd (w.file v) (λ f. Shows compared (shown f.cells off len) n body)
-Answers compared w (ops.Read off len) a = ⊥
+-- a line that brings bytes is refused by what its client knows, so its version is the front
+abbrev pub IsAtFront : LineView → Option Write → ℕ → Type 0
+IsAtFront w None v = Unit {0}
+IsAtFront w (Some x) v = v ≡ w.front
+
+-- a write is accepted, and has so many parts
+abbrev pub Accepts : LineView → Option Write → ℕ → Type 0
+Accepts w None slots = ⊥
+Accepts w (Some x) slots = MayWrite w × (x.at + length x.bytes ≤ LONGEST_FILE) × (slots ≡ parts_of w.chunk (length x.bytes))
+
+-- a write would end past the longest file
+abbrev pub EndsPast : LineView → Option Write → Type 0
+EndsPast w None = ⊥
+EndsPast w (Some x) = MayWrite w × (LONGEST_FILE < x.at + length x.bytes)
+
+-- the range of a file is shown
+abbrev pub ShowsRange : Type 0 → Option Range → File ℕ → ℕ → Body → Type 0
+ShowsRange compared None f n body = ⊥
+ShowsRange compared (Some x) None n body = ⊥
+ShowsRange compared (Some x) (Some f) n body = Shows compared (shown f.cells x.off x.len) n body
+
+-- the table: each answer, the operations that may have it, and where
+abbrev pub IsInTable : Type 0 → LineView → Op → Answer → Type 0
+IsInTable compared w op (answers.Done v) =
+    MatchBool (commits op w.pending) (entry w.journal v ≡ Some w.number) (IsTrue (finds_file op) × IsSome (w.file v))
+IsInTable compared w op (answers.Wrote slots) = Accepts w (brought op) slots
+IsInTable compared w op (answers.Shown v n body) = ShowsRange compared (asked op) (w.file v) n body
+IsInTable compared w op answers.BadF = IsTrue (needs_open op)
+IsInTable compared w op (answers.Exists v) = IsTrue (needs_no_file op) × IsSome (w.file v)
+IsInTable compared w op (answers.NoEnt v) = IsTrue (needs_file op) × IsAtFront w (brought op) v × IsNone (w.file v)
+IsInTable compared w op (answers.ReadOnly v) =
+    IsTrue (needs_unfrozen op w.pending) × IsAtFront w (brought op) v × IsTrue (is_frozen (w.file v))
+IsInTable compared w op answers.TooBig = EndsPast w (brought op)
 
 -- a line's answer fits a journal of its path, with these answers of earlier lines
 pub record Fits (told : List ℕ) (s : Job) (A : Answering) (J : List ℕ) (n : ℕ) (o : OpLine) (a : Answer) : Type 0 where
   pub opened : AgreesWithOpen o.op (is_open s A o.rank o.path n) a
   pub version : IfSome (version_of a) (λ v. IsInReach s A J n o v)
-  pub answer : Answers (AreTold s told) (view_of s A J n o) o.op a
+  pub answer : IsInTable (AreTold s told) (line_view s A J n o) o.op a

@@ -1,21 +1,11 @@
 -- What a line must know of: the versions that its client has seen, and the commits of earlier phases.
-use Rattle.std.specs.Prelude.{ℕ, zero, suc, Bool, true, false, ◌||◌, max, nat_lt, count_by, List, Option, Some, None}
+use Rattle.std.specs.Prelude.{ℕ, zero, suc, Bool, false, ◌&&◌, ◌||◌, max, nat_lt, count_by, is_some, List, Option, Some, None}
 use Rattle.fs_types.specs.declared.answer.Answer.{Answer}
-use Rattle.fs_types.specs.declared.answer.Answer.TheVariants as answers
 use Rattle.fs_script.specs.declared.line.Op.{Op}
-use Rattle.fs_script.specs.declared.line.Op.TheVariants as ops
 use Rattle.fs_script.specs.Job.{Job, own_at, phase}
 use Rattle.fs_script.specs.Pending.{Answering}
-
--- the version that an answer prints
-abbrev pub version_of : Answer → Option ℕ
-version_of (answers.Done v) = Some v
-version_of (answers.Wrote slots) = None
-version_of (answers.Shown v n body) = Some v
-version_of answers.BadF = None
-version_of (answers.Exists v) = Some v
-version_of (answers.NoEnt v) = Some v
-version_of answers.TooBig = None
+use Rattle.fs_script.specs.Operations.{opens_path}
+use Rattle.fs_script.specs.AnswerKinds.{version_of, done_at}
 
 abbrev pub at_least : ℕ → Option ℕ → ℕ
 at_least m None = m
@@ -39,9 +29,9 @@ of_earlier_phases s n J = count_by (λ m. nat_lt (phase s m) (phase s n)) J
 abbrev pub front : Job → Answering → List ℕ → ℕ → List ℕ → ℕ → ℕ
 front s A J r p n = max (seen s A r p n) (of_earlier_phases s n J)
 
+-- an operation with this answer opened its path
 abbrev pub opens : Op → Answer → Bool
-opens ops.Create (answers.Done v) = true
-opens op a = false
+opens op a = opens_path op && is_some (done_at a)
 
 abbrev pub open_after : Option Op → Option Answer → Bool → Bool
 open_after None a b = b

@@ -4,6 +4,7 @@ use Rattle.std.specs.List.{slice_split, AllByRecursion}
 use Rattle.std.specs.Fmt.{decimal}
 use Rattle.fs_types.specs.PathText.{IsPath}
 use Rattle.fs_script.specs.TextBytes.{AreTextBytes}
+use Rattle.fs_script.specs.declared.limits.TheConstants.{SCRIPT_LIMIT, LINE_LIMIT, TRANSFER_LIMIT, LEAST_CHUNK, MOST_CHUNK, CHUNK_UNIT, MEMORY_SLOTS, MEMORY_BYTES}
 use Rattle.fs_script.specs.declared.shape.Shape.{Shape}
 use Rattle.fs_script.specs.declared.line.Line.{Line}
 use Rattle.fs_script.specs.declared.line.Line.TheVariants as lines
@@ -33,12 +34,12 @@ header_text h = codes "unifyfs 1 servers=" ++ decimal h.servers ++ codes " clien
 pub record IsShape (h : Shape) : Type 0 where
   pub servers : h.servers ≡ 1
   pub clients : h.clients ≡ 1
-  pub chunk_least : 64 ≤ h.chunk
-  pub chunk_most : h.chunk ≤ 65536
-  pub chunk_whole : h.chunk % 8 ≡ 0
+  pub chunk_least : LEAST_CHUNK ≤ h.chunk
+  pub chunk_most : h.chunk ≤ MOST_CHUNK
+  pub chunk_whole : h.chunk % CHUNK_UNIT ≡ 0
   pub some_slot : 1 ≤ h.shmem
-  pub slots : h.shmem ≤ 65536
-  pub slot_bytes : h.shmem * h.chunk ≤ 268435456
+  pub slots : h.shmem ≤ MEMORY_SLOTS
+  pub slot_bytes : h.shmem * h.chunk ≤ MEMORY_BYTES
   pub spill : h.spill ≡ 0
 
 abbrev pub data_text : Data → List ℕ
@@ -51,19 +52,15 @@ op_text (ops.Write off text) p = codes "write " ++ p ++ codes " " ++ decimal off
 op_text ops.Sync p = codes "sync " ++ p
 op_text (ops.Read off len) p = codes "read " ++ p ++ codes " " ++ decimal off ++ codes " " ++ decimal len
 
--- the most bytes that one line writes or reads
-abbrev pub transfer_limit : ℕ
-transfer_limit = 16777216
-
 abbrev pub IsData : Data → Type 0
-IsData (Text bytes) = AreTextBytes bytes × (length bytes ≤ transfer_limit)
+IsData (Text bytes) = AreTextBytes bytes × (length bytes ≤ TRANSFER_LIMIT)
 
 -- the numbers and bytes that an operation may have
 abbrev pub IsOp : Op → Type 0
 IsOp ops.Create = Unit {0}
 IsOp (ops.Write off text) = (off < 2 ^ 64) × IsData text
 IsOp ops.Sync = Unit {0}
-IsOp (ops.Read off len) = (off < 2 ^ 64) × (len ≤ transfer_limit)
+IsOp (ops.Read off len) = (off < 2 ^ 64) × (len ≤ TRANSFER_LIMIT)
 
 -- an operation that a client of the job may do
 pub record IsOpLine (h : Shape) (o : OpLine) : Type 0 where
@@ -83,18 +80,11 @@ line_text lines.Note = []
 line_text lines.Barrier = codes "barrier"
 line_text (lines.Op o) = decimal o.rank ++ codes " " ++ op_text o.op o.path
 
--- the most bytes and the most lines of a script
-abbrev pub script_limit : ℕ
-script_limit = 4194304
-
-abbrev pub line_limit : ℕ
-line_limit = 65536
-
 -- a job within the limits
 pub record IsJob (s : Job) : Type 0 where
   pub shape : IsShape s.shape
   pub lines : AllByRecursion (IsLine s.shape) s.lines
-  pub few : length s.lines < line_limit
+  pub few : length s.lines < LINE_LIMIT
 
 -- these bytes spell a line
 abbrev pub SpellsLine : Shape → Line → List ℕ → Type 0
@@ -114,6 +104,6 @@ SpellJob s (t ∷ ts) = IsShape s.shape × (t ≡ header_text s.shape) × SpellL
 
 -- these bytes are the script of a job
 pub record IsScript (bytes : List ℕ) (s : Job) : Type 0 where
-  pub size : length bytes ≤ script_limit
-  pub lines : length (lines_of bytes) ≤ line_limit
+  pub size : length bytes ≤ SCRIPT_LIMIT
+  pub lines : length (lines_of bytes) ≤ LINE_LIMIT
   pub spelled : SpellJob s (lines_of bytes)

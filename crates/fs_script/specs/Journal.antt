@@ -1,21 +1,19 @@
 -- Legal journals: each accepted committing line of a path once, in an order that its clients could have seen.
-use Rattle.std.specs.Prelude.{◌≡◌, ℕ, suc, ◌<◌, ◌≤◌, Bool, true, List, ◌∷◌, Option, Some, None, if◌then◌else◌}
+use Rattle.std.specs.Prelude.{◌≡◌, ℕ, suc, ◌<◌, ◌≤◌, Bool, true, List, Option, Some, None, if◌then◌else◌}
 use Rattle.std.specs.List.{slice_get, Contains}
 use Rattle.std.specs.Str.{bytes_eq}
 use Rattle.fs_types.specs.declared.answer.Answer.{Answer}
-use Rattle.fs_types.specs.declared.answer.Answer.TheVariants as answers
 use Rattle.fs_script.specs.declared.line.OpLine.{OpLine}
 use Rattle.fs_script.specs.declared.line.Op.{Op}
-use Rattle.fs_script.specs.declared.line.Op.TheVariants as ops
 use Rattle.fs_script.specs.Job.{Job, op_at, rank_at, phase}
 use Rattle.fs_script.specs.Pending.{Answering, pending}
+use Rattle.fs_script.specs.Operations.{commits}
+use Rattle.fs_script.specs.AnswerKinds.{done_at}
 use Rattle.fs_script.specs.Effect.{is_enabled, state}
 
--- the version of a committing operation that was accepted, with these lines pending: a create, or a sync of something
+-- the version of an operation that was committed, with these lines pending and this answer
 abbrev pub commit_of : Op → List ℕ → Answer → Option ℕ
-commit_of ops.Create q (answers.Done v) = Some v
-commit_of ops.Sync (m ∷ q) (answers.Done v) = Some v
-commit_of op q a = None
+commit_of op q a = if commits op q then done_at a else None
 
 abbrev pub commit_by : Op → List ℕ → Option Answer → Option ℕ
 commit_by op q None = None

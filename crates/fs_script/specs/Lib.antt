@@ -1,6 +1,8 @@
 pub mod TextBytes
 pub mod Job
 pub mod Payload
+pub mod Operations
+pub mod AnswerKinds
 pub mod Pending
 pub mod Effect
 pub mod Front
@@ -12,6 +14,6 @@ pub mod Printable
 pub mod Grammar
 pub mod Reading
 pub mod Growth
-pub mod Outcome
+pub mod Returned
 pub mod SoFar
 pub mod Laws

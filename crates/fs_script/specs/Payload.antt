@@ -1,4 +1,4 @@
--- Payloads: the bytes that a line writes, and the parts that they are cut into.
+-- Payloads: the bytes that a line writes, where in the file it writes them, and the parts that they are cut into.
 use Rattle.std.specs.Prelude.{ℕ, ◌*◌, List, [], length, take, drop, Option, Some, None}
 use Rattle.std.specs.Int.{div_ceil}
 use Rattle.fs_types.specs.Marks.{Mark, marks_of}
@@ -12,45 +12,41 @@ use Rattle.fs_script.specs.Job.{Job, op_at}
 abbrev pub data_bytes : Data → List ℕ
 data_bytes (Text bytes) = bytes
 
--- the bytes that an operation brings, none but for a write
-abbrev pub brought : Op → List ℕ
-brought (ops.Write off text) = data_bytes text
-brought ops.Create = []
-brought ops.Sync = []
-brought (ops.Read off len) = []
+-- what a write brings: the place in the file, and the bytes from there on
+pub record Write : Type 0 where
+  pub at : ℕ
+  pub bytes : List ℕ
 
-abbrev pub payload_in : Option OpLine → List ℕ
-payload_in None = []
-payload_in (Some o) = brought o.op
+-- what an operation brings into its client's log, if it does
+abbrev pub brought : Op → Option Write
+brought ops.Create = None
+brought (ops.Write off text) = Some (record { at = off; bytes = data_bytes text })
+brought ops.Sync = None
+brought (ops.Read off len) = None
+
+abbrev pub brought_in : Option OpLine → Option Write
+brought_in None = None
+brought_in (Some o) = brought o.op
+
+-- what line n writes, if it does
+abbrev pub write_at : Job → ℕ → Option Write
+write_at s n = brought_in (op_at s n)
+
+abbrev pub bytes_brought : Option Write → List ℕ
+bytes_brought None = []
+bytes_brought (Some w) = w.bytes
+
+abbrev pub place_brought : Option Write → ℕ
+place_brought None = 0
+place_brought (Some w) = w.at
 
 -- the bytes that line n writes
 abbrev pub payload : Job → ℕ → List ℕ
-payload s n = payload_in (op_at s n)
+payload s n = bytes_brought (write_at s n)
 
-abbrev pub Writes : Op → Type 0
-Writes (ops.Write off text) = Unit {0}
-Writes ops.Create = ⊥
-Writes ops.Sync = ⊥
-Writes (ops.Read off len) = ⊥
-
--- a line's operation is a write
-abbrev pub IsWrite : Option OpLine → Type 0
-IsWrite None = ⊥
-IsWrite (Some o) = Writes o.op
-
-abbrev pub place_of : Op → ℕ
-place_of (ops.Write off text) = off
-place_of ops.Create = 0
-place_of ops.Sync = 0
-place_of (ops.Read off len) = 0
-
-abbrev pub offset_in : Option OpLine → ℕ
-offset_in None = 0
-offset_in (Some o) = place_of o.op
-
--- where in the file line n writes them
+-- where in the file it writes them
 abbrev pub offset : Job → ℕ → ℕ
-offset s n = offset_in (op_at s n)
+offset s n = place_brought (write_at s n)
 
 -- how many parts of chunk bytes hold len bytes, the last one perhaps shorter
 abbrev pub parts_of : ℕ → ℕ → ℕ

@@ -1,32 +1,27 @@
 -- Pending writes: what a client wrote to a path and hasn't yet committed.
-use Rattle.std.specs.Prelude.{ℕ, zero, suc, ◌==◌, Bool, true, false, List, [], ◌∷◌, ◌++◌, length, Option, Some, None, if◌then◌else◌}
+use Rattle.std.specs.Prelude.{ℕ, zero, suc, ◌==◌, List, [], ◌∷◌, ◌++◌, length, Option, Some, None, if◌then◌else◌}
 use Rattle.fs_types.specs.declared.answer.Answer.{Answer}
-use Rattle.fs_types.specs.declared.answer.Answer.TheVariants as answers
 use Rattle.fs_script.specs.declared.line.OpLine.{OpLine}
 use Rattle.fs_script.specs.declared.line.Op.{Op}
 use Rattle.fs_script.specs.declared.line.Op.TheVariants as ops
 use Rattle.fs_script.specs.Job.{Job, op_at, own_at}
 use Rattle.fs_script.specs.Payload.{data_bytes}
+use Rattle.fs_script.specs.AnswerKinds.{is_accepted, empties}
 
 -- answers by line
 abbrev pub Answering : Type 0
 Answering = ℕ → Option Answer
 
--- whether a sync with this answer leaves nothing pending
-abbrev pub empties : Answer → Bool
-empties answers.BadF = false
-empties answers.TooBig = false
-empties (answers.Done v) = true
-empties (answers.Wrote slots) = true
-empties (answers.Shown v n body) = true
-empties (answers.Exists v) = true
-empties (answers.NoEnt v) = true
+-- the pending lines with one more at the end, if it brings bytes
+abbrev pub with_write : ℕ → List ℕ → List ℕ → List ℕ
+with_write n bytes q = if length bytes == 0 then q else q ++ n ∷ []
 
--- what is pending after line n was answered: an accepted write that brings bytes comes last
+-- what is pending after line n had this answer
 abbrev pub after_answer : Op → Answer → ℕ → List ℕ → List ℕ
-after_answer (ops.Write off text) (answers.Wrote slots) n q = if length (data_bytes text) == 0 then q else q ++ n ∷ []
+after_answer ops.Create a n q = q
+after_answer (ops.Write off text) a n q = if is_accepted a then with_write n (data_bytes text) q else q
 after_answer ops.Sync a n q = if empties a then [] else q
-after_answer op a n q = q
+after_answer (ops.Read off len) a n q = q
 
 abbrev pub after : Option Op → Option Answer → ℕ → List ℕ → List ℕ
 after None a n q = q

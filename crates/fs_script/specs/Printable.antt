@@ -44,6 +44,7 @@ IsPrintableAnswer (answers.Shown v n body) = IsPrintableRead v n body
 IsPrintableAnswer answers.BadF = Unit {0}
 IsPrintableAnswer (answers.Exists v) = v < 2 ^ 64
 IsPrintableAnswer (answers.NoEnt v) = v < 2 ^ 64
+IsPrintableAnswer (answers.ReadOnly v) = v < 2 ^ 64
 IsPrintableAnswer answers.TooBig = Unit {0}
 
 -- an answer with its line, which has 32 bits

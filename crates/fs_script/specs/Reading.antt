@@ -5,6 +5,7 @@ use Rattle.std.specs.Str.{bytes_eq, all_ascii_digits}
 use Rattle.std.specs.Str.Parse.{digits_value}
 use Rattle.fs_types.specs.PathText.{is_path}
 use Rattle.fs_script.specs.TextBytes.{is_text_byte}
+use Rattle.fs_script.specs.declared.limits.TheConstants.{SCRIPT_LIMIT, LINE_LIMIT, TRANSFER_LIMIT, LEAST_CHUNK, MOST_CHUNK, CHUNK_UNIT, MEMORY_SLOTS, MEMORY_BYTES}
 use Rattle.fs_script.specs.declared.shape.Shape.{Shape}
 use Rattle.fs_script.specs.declared.line.Line.{Line}
 use Rattle.fs_script.specs.declared.line.Line.TheVariants as lines
@@ -16,7 +17,7 @@ use Rattle.fs_script.specs.declared.fault.ScriptFault.{ScriptFault}
 use Rattle.fs_script.specs.declared.fault.ScriptFault.TheVariants as faults
 use Rattle.fs_script.specs.declared.fault.Reason.TheVariants as reasons
 use Rattle.fs_script.specs.Job.{Job}
-use Rattle.fs_script.specs.Grammar.{lines_of, transfer_limit, script_limit, line_limit}
+use Rattle.fs_script.specs.Grammar.{lines_of}
 
 -- the second step, where the first gave a value
 infixl 10 ◌>>=◌
@@ -42,8 +43,8 @@ words_of line = slice_split (λ b. b == 32) line
 
 -- whether a job may have these numbers
 abbrev pub is_shape : Shape → Bool
-is_shape h = (h.servers == 1) && (h.clients == 1) && nat_le 64 h.chunk && nat_le h.chunk 65536 && (h.chunk % 8 == 0)
-    && nat_le 1 h.shmem && nat_le h.shmem 65536 && nat_le (h.shmem * h.chunk) 268435456 && (h.spill == 0)
+is_shape h = (h.servers == 1) && (h.clients == 1) && nat_le LEAST_CHUNK h.chunk && nat_le h.chunk MOST_CHUNK && (h.chunk % CHUNK_UNIT == 0)
+    && nat_le 1 h.shmem && nat_le h.shmem MEMORY_SLOTS && nat_le (h.shmem * h.chunk) MEMORY_BYTES && (h.spill == 0)
 
 abbrev pub checked_shape : Shape → Option Shape
 checked_shape h = if is_shape h then Some h else None
@@ -78,10 +79,10 @@ path_of word = if is_path word then Some word else None
 abbrev pub span_of : List ℕ → Option ℕ
 span_of word = do
   n ← number_of word
-  if nat_le n transfer_limit then Some n else None
+  if nat_le n TRANSFER_LIMIT then Some n else None
 
 abbrev pub text_of : List ℕ → Option Data
-text_of bytes = if list_all is_text_byte bytes && nat_le (length bytes) transfer_limit then Some (Text bytes) else None
+text_of bytes = if list_all is_text_byte bytes && nat_le (length bytes) TRANSFER_LIMIT then Some (Text bytes) else None
 
 -- the payload that a word says
 abbrev pub data_of : List ℕ → Option Data
@@ -154,5 +155,5 @@ job_of_lines (t ∷ ts) = after_header (header_of t) ts
 -- the job that the bytes spell, or the first fault
 abbrev pub job_of : List ℕ → Result Job ScriptFault
 job_of bytes =
-    if nat_lt script_limit (length bytes) || nat_lt line_limit (length (lines_of bytes)) then Err faults.TooLong
+    if nat_lt SCRIPT_LIMIT (length bytes) || nat_lt LINE_LIMIT (length (lines_of bytes)) then Err faults.TooLong
     else job_of_lines (lines_of bytes)

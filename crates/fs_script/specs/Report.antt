@@ -8,8 +8,9 @@ use Rattle.md5.specs.Md5.{md5}
 use Rattle.fs_types.specs.declared.answer.Answer.{Answer}
 use Rattle.fs_types.specs.declared.file_state.FileState.{FileState}
 use Rattle.fs_types.specs.declared.file_state.FileState.TheVariants as states
-use Rattle.fs_types.specs.Answers.{answer_at}
+use Rattle.fs_types.specs.AnswerList.{answer_at}
 use Rattle.fs_types.specs.PlainFile.{File}
+use Rattle.fs_script.specs.declared.limits.TheConstants.{DIGEST_LIMIT}
 use Rattle.fs_script.specs.declared.line.OpLine.{OpLine}
 use Rattle.fs_script.specs.Job.{Job, op_at, op_lines, Names}
 use Rattle.fs_script.specs.Pending.{Answering}
@@ -45,14 +46,10 @@ pub record HasShape (s : Job) (R : Report) : Type 0 where
   pub journals : ArePaths s (map (λ j. j.0) R.journals)
   pub files : map (λ f. f.0) R.files ≡ map (λ j. j.0) R.journals
 
--- how many bytes of a file its digest is of, at most
-abbrev pub digest_limit : ℕ
-digest_limit = 16777216
-
 -- how a report shows a file
 abbrev pub file_state_of : File ℕ → FileState
 file_state_of None = states.Gone
-file_state_of (Some f) = states.Whole (length f.cells) f.frozen (md5 (take digest_limit f.cells))
+file_state_of (Some f) = states.Whole (length f.cells) f.frozen (md5 (take DIGEST_LIMIT f.cells))
 
 -- the answers of a report as a function from lines
 abbrev pub answering : Report → Answering

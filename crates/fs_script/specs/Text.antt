@@ -26,6 +26,7 @@ answer_text (answers.Shown v n body) = codes "ok v=" ++ decimal v ++ codes " n="
 answer_text answers.BadF = codes "badf"
 answer_text (answers.Exists v) = codes "exists v=" ++ decimal v
 answer_text (answers.NoEnt v) = codes "noent v=" ++ decimal v
+answer_text (answers.ReadOnly v) = codes "readonly v=" ++ decimal v
 answer_text answers.TooBig = codes "toobig"
 
 -- the line of an answer

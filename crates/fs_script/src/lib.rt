@@ -4,6 +4,7 @@
 
 mod fault;
 pub mod laws;
+pub mod limits;
 mod line;
 mod read;
 mod script;

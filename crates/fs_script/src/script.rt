@@ -1,9 +1,9 @@
 //! A script that was read.
 
-ghost use Rattle.std.specs.Prelude.{◌≡◌, ◌≤◌, ◌+◌, length, take, drop, option_copied};
+ghost use Rattle.std.specs.Prelude.{◌≡◌, ◌≤◌, ◌+◌, length, take, drop, option_copied, IsSome};
 ghost use Rattle.fs_script.specs.Grammar.{IsJob};
-ghost use Rattle.fs_script.specs.Job.{line_at, op_at};
-ghost use Rattle.fs_script.specs.Payload.{IsWrite, payload};
+ghost use Rattle.fs_script.specs.Job.{line_at};
+ghost use Rattle.fs_script.specs.Payload.{write_at, payload};
 
 use crate::line::{Data, Line, Op, OpLine};
 use crate::shape::Shape;
@@ -62,7 +62,7 @@ impl Script {
 
     /// The bytes that line `n` writes.
     fn payload(&self, n: LineNo) -> &[u8]
-        requires { IsWrite (op_at self.now n) }
+        requires { IsSome (write_at self.now n) }
         ensures { result.now ≡ payload self.now n }
     {
         match self.line(n) {
@@ -83,7 +83,7 @@ impl Script {
 
     /// How many bytes line `n` writes.
     pub fn payload_len(&self, n: LineNo) -> u64
-        requires { IsWrite (op_at self.now n) }
+        requires { IsSome (write_at self.now n) }
         ensures { result ≡ length (payload self.now n) }
     {
         self.payload(n).len() as u64
@@ -91,7 +91,7 @@ impl Script {
 
     /// Copies the bytes that line `n` writes, from the byte at `from` on, until `out` is full.
     pub fn payload_into(&self, n: LineNo, from: u64, out: &mut [u8])
-        requires is_write { IsWrite (op_at self.now n) }
+        requires is_write { IsSome (write_at self.now n) }
         requires within { from + length out.old ≤ length (payload self.now n) }
         ensures { out.new ≡ take (length out.old) (drop from (payload self.now n)) }
     {

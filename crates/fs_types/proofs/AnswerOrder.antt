@@ -2,7 +2,7 @@
 use Rattle.std.proofs.Common.{◌≡◌, ℕ, suc, ◌<◌, ◌≤◌, ◌==◌, List, [], ◌∷◌, ◌++◌, Some, None, refl, sym, ap, ◌∙◌, subst, if◌then◌else◌, arith, ◌⊎◌, inl, inr, All}
 use Rattle.std.proofs.lemmas.Bool.Decides.{nat_tests}
 use Rattle.std.proofs.lemmas.List.Elements.{All-head, All-tail}
-use Rattle.fs_types.specs.Answers.{answer_at, put_answer, answers_given, IsRising, IsRisingFrom}
+use Rattle.fs_types.specs.AnswerList.{answer_at, put_answer, answers_given, IsRising, IsRisingFrom}
 use Rattle.fs_types.specs.declared.answer.Answer.{Answer}
 use Rattle.fs_types.proofs.Tables.{answer_at-same, answer_at-other, put_answer-before, put_answer-over, put_answer-after}
 

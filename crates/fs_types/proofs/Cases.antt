@@ -1,6 +1,6 @@
 -- The definitions at single values.
 use Rattle.std.proofs.Common.{◌≡◌, true, false, [], ◌∷◌, Some, None, codes, refl}
-use Rattle.fs_types.specs.Answers.{answer_at, put_answer}
+use Rattle.fs_types.specs.AnswerList.{answer_at, put_answer}
 use Rattle.fs_types.specs.NameText.{is_name}
 use Rattle.fs_types.specs.PathText.{is_path}
 use Rattle.fs_types.specs.declared.answer.Answer.TheVariants.{BadF, TooBig}

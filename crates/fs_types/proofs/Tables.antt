@@ -2,7 +2,7 @@
 use Rattle.std.proofs.Common.{All, ◌≡◌, ◌≢◌, ℕ, zero, suc, ◌+◌, ◌-◌, ◌<◌, ◌≤◌, List, [], ◌∷◌, ◌++◌, length, get_or, set, Option, Some, None, refl, sym, ap, subst, ◌∙◌, arith}
 use Rattle.std.proofs.lemmas.Bool.Decides.{nat_tests}
 use Rattle.std.proofs.lemmas.List.Elements.{All-nil, All-cons}
-use Rattle.fs_types.specs.Answers.{Given, answer_at, put_answer, listed, IsRisingFrom}
+use Rattle.fs_types.specs.AnswerList.{Given, answer_at, put_answer, listed, IsRisingFrom}
 use Rattle.fs_types.specs.declared.answer.Answer.{Answer}
 
 -- the first line has the first answer

@@ -1,6 +1,6 @@
 -- The laws of lists of answers by line.
 use Rattle.std.specs.Prelude.{◌≡◌, ℕ, ◌<◌, ◌==◌, if◌then◌else◌, List, [], ◌∷◌, ◌++◌, Some, All}
-use Rattle.fs_types.specs.Answers.{answer_at, put_answer, answers_given, IsRising}
+use Rattle.fs_types.specs.AnswerList.{answer_at, put_answer, answers_given, IsRising}
 use Rattle.fs_types.specs.declared.answer.Answer.{Answer}
 
 -- a line has the answer that was put there, and each other line the answer that it had

@@ -6,5 +6,5 @@ pub mod OverwriteLaws
 pub mod PlainFile
 pub mod Marks
 pub mod PathLaws
-pub mod Answers
+pub mod AnswerList
 pub mod AnswerLaws

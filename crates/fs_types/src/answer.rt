@@ -4,7 +4,7 @@ use crate::digest::Digest16;
 use crate::number::Version;
 use crate::short_bytes::ShortBytes;
 
-/// The bytes that a read shows, or their digest where they are more than 32.
+/// The bytes that a read shows, or their digest where they are more than [`HEX_LIMIT`](crate::HEX_LIMIT).
 #[derive(Debug, Drop)]
 pub enum Body {
     Hex(ShortBytes),
@@ -27,6 +27,8 @@ pub enum Answer {
     Exists { v: Version },
     /// There is no file.
     NoEnt { v: Version },
+    /// The file is frozen.
+    ReadOnly { v: Version },
     /// The write would end past the longest file.
     TooBig,
 }

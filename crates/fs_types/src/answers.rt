@@ -2,7 +2,7 @@
 
 ghost use Rattle.std.specs.Prelude.{◌≡◌, ◌≤◌, [], All, IfOk, vec_len};
 ghost use Rattle.std.specs.Option.{option_copied};
-ghost use Rattle.fs_types.specs.Answers.{IsRisingFrom, answer_at, listed, put_answer};
+ghost use Rattle.fs_types.specs.AnswerList.{IsRisingFrom, answer_at, listed, put_answer};
 
 use crate::answer::Answer;
 use crate::number::LineNo;
@@ -20,7 +20,7 @@ pub struct Answers {
 
 impl Model for Answers {
     ghost use Rattle.std.specs.Prelude.{◌<◌, ◌^◌, length};
-    ghost use Rattle.fs_types.specs.Answers.{Given, listed};
+    ghost use Rattle.fs_types.specs.AnswerList.{Given, listed};
 
     ghost Value = { Given };
 

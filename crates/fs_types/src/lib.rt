@@ -7,6 +7,7 @@ mod answers;
 mod digest;
 mod file_state;
 mod laws;
+mod limits;
 mod name;
 mod number;
 mod path;
@@ -22,6 +23,7 @@ pub use laws::{
     answers_are_a_table, cutting_leaves_the_first_places, names_are_visible_texts,
     overwriting_is_by_place, paths_are_mounted_texts, showing_gives_a_range,
 };
+pub use limits::{HEX_LIMIT, LONGEST_FILE, LONGEST_PATH};
 pub use name::{Name, NameFault};
 pub use number::{LineNo, Rank, Version};
 pub use path::{Path, PathFault};

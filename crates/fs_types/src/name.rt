@@ -4,14 +4,12 @@ ghost use Rattle.std.specs.Prelude.{◌≡◌, IfOk, OnOk, IsErrOf};
 ghost use Rattle.std.specs.List.{list_all};
 ghost use Rattle.fs_types.specs.NameText.{IsName, is_name, is_name_part};
 
+use crate::limits::LONGEST_PATH;
 use crate::path::is_name_character;
 use crate::want::Want;
 use std::alloc::{AllocError, Global};
 use std::marker::Model;
 use thiserror::Error;
-
-/// The most bytes that a name has.
-const LONGEST: usize = 255;
 
 /// The name of a file that is staged in or out: 1 to 255 bytes, the first not `-`. A clause sees
 /// the list of its bytes.
@@ -51,7 +49,7 @@ fn has_name_parts(text: &[u8]) -> bool
 fn is_name_text(b: &[u8]) -> bool
     ensures { result ≡ is_name b.now }
 {
-    !b.is_empty() && b.len() <= LONGEST && !b.starts_with(b"-") && has_name_parts(b)
+    !b.is_empty() && b.len() <= LONGEST_PATH && !b.starts_with(b"-") && has_name_parts(b)
 }
 
 impl Name {

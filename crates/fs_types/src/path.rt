@@ -4,13 +4,11 @@ ghost use Rattle.std.specs.Prelude.{◌≡◌, ◌↔◌, IfOk, OnOk, IsTrue, Is
 ghost use Rattle.std.specs.List.{list_all};
 ghost use Rattle.fs_types.specs.PathText.{IsPath, between_slashes, is_component, is_name_character, is_path};
 
+use crate::limits::LONGEST_PATH;
 use crate::want::Want;
 use std::alloc::{AllocError, Global};
 use std::marker::Model;
 use thiserror::Error;
-
-/// The most bytes that a path has.
-const LONGEST: usize = 255;
 
 /// A path of the shared namespace: 10 to 255 bytes that begin with `/unifyfs/`. A clause sees the
 /// list of its bytes.
@@ -71,7 +69,7 @@ fn are_components(text: &[u8]) -> bool
 fn is_path_text(b: &[u8]) -> bool
     ensures { result ≡ is_path b.now }
 {
-    b.len() <= LONGEST && b.starts_with(b"/unifyfs/") && are_components(&b[9..])
+    b.len() <= LONGEST_PATH && b.starts_with(b"/unifyfs/") && are_components(&b[9..])
 }
 
 impl Path {

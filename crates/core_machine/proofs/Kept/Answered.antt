@@ -10,7 +10,7 @@ use Rattle.std.proofs.lemmas.List.{length-set, map_push}
 use Rattle.std.proofs.lemmas.List.Elements.{All-from_recursion}
 use Rattle.std.proofs.lemmas.Option.{same_Some, slice_get_within}
 use Rattle.fs_types.specs.declared.answer.Answer.{Answer}
-use Rattle.fs_types.specs.Answers.{Given, answer_at, put_answer}
+use Rattle.fs_types.specs.AnswerList.{Given, answer_at, put_answer}
 use Rattle.fs_types.proofs.AnswerOrder.{put_answer-above}
 use Rattle.fs_script.specs.declared.line.OpLine.{OpLine}
 use Rattle.fs_script.specs.Job.{Job, op_at, program}

@@ -5,7 +5,7 @@ use Rattle.std.specs.List.{slice_get, AllByRecursion}
 use Rattle.std.proofs.lemmas.List.{length-map}
 use Rattle.std.proofs.lemmas.List.Elements.{recursion_from_All}
 use Rattle.std.proofs.lemmas.Option.{slice_get_within, get_or_from_slice_get}
-use Rattle.fs_types.specs.Answers.{Given, answer_at}
+use Rattle.fs_types.specs.AnswerList.{Given, answer_at}
 use Rattle.fs_script.specs.Job.{Job}
 use Rattle.fs_script.specs.Grammar.{IsJob}
 use Rattle.fs_script.specs.Report.{ArePaths}

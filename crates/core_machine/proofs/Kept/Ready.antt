@@ -5,7 +5,7 @@ use Rattle.std.specs.List.{slice_get, range_with_len, Contains}
 use Rattle.std.proofs.lemmas.Bool.{cases_lt, le-leb, le-ltb, or_right}
 use Rattle.std.proofs.lemmas.Bool.Decides.{nat_tests}
 use Rattle.std.proofs.lemmas.List.FromFn.{length-range_with_len}
-use Rattle.fs_types.specs.Answers.{Given}
+use Rattle.fs_types.specs.AnswerList.{Given}
 use Rattle.fs_script.specs.Job.{Job, phase, program}
 use Rattle.fs_script.specs.Grammar.{IsJob}
 use Rattle.core_machine.specs.declared.path_state.PathState.{PathState}

@@ -6,7 +6,7 @@ use Rattle.std.proofs.lemmas.Bool.{cond_both, le-ltb}
 use Rattle.std.proofs.lemmas.List.{length-replicate}
 use Rattle.fs_types.specs.declared.answer.Answer.{Answer}
 use Rattle.fs_types.specs.declared.file_state.FileState.{FileState}
-use Rattle.fs_types.specs.Answers.{answer_at, IsRising}
+use Rattle.fs_types.specs.AnswerList.{answer_at, IsRising}
 use Rattle.fs_script.specs.declared.line.OpLine.{OpLine}
 use Rattle.fs_script.specs.Job.{Job, op_at, op_lines}
 use Rattle.fs_script.specs.Grammar.{IsJob}

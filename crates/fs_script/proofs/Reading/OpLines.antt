@@ -9,6 +9,7 @@ use Rattle.std.proofs.lemmas.Option.{same_Some}
 use Rattle.std.proofs.lemmas.Bool.Decides.{nat_tests, Decides-eqb}
 use Rattle.std.proofs.lemmas.Slice.Eq.{bytes_eq-Decides, starts_is}
 use Rattle.fs_types.specs.PathText.{IsPath, is_path}
+use Rattle.fs_script.specs.declared.limits.TheConstants.{TRANSFER_LIMIT}
 use Rattle.fs_script.specs.TextBytes.{is_text_byte}
 use Rattle.fs_script.specs.declared.shape.Shape.{Shape}
 use Rattle.fs_script.specs.declared.line.Line.{Line}
@@ -18,7 +19,7 @@ use Rattle.fs_script.specs.declared.line.Op.{Op}
 use Rattle.fs_script.specs.declared.line.Op.TheVariants as ops
 use Rattle.fs_script.specs.declared.line.Data.{Data}
 use Rattle.fs_script.specs.declared.line.Data.TheVariants.{Text}
-use Rattle.fs_script.specs.Grammar.{data_text, op_text, line_text, IsData, IsOp, IsOpLine, IsLine, SpellsLine, transfer_limit}
+use Rattle.fs_script.specs.Grammar.{data_text, op_text, line_text, IsData, IsOp, IsOpLine, IsLine, SpellsLine}
 use Rattle.fs_script.specs.Reading.{◌>>=◌, number_of, words_of, rank_of, path_of, span_of, text_of, data_of, write_of, read_of, op_of_words, op_line_of, line_of_words, line_of}
 use Rattle.fs_script.proofs.Reading.Numbers.{guard, bind_some, number_is_text, text_is_number}
 use Rattle.fs_script.proofs.Reading.Words.{IsWord, is_word-append, is_word-decimal, is_word-text, is_word-path, words_joined, words_again}
@@ -55,19 +56,19 @@ line_joined r p o = append_assoc r (codes " ") (op_text o p) ∙ ap (λ x. r ++ 
 
 -- ---- what is read is spelled so
 
-span_is : (w : List ℕ) (n : ℕ) → span_of w ≡ Some n → (n ≤ transfer_limit) × (w ≡ decimal n)
+span_is : (w : List ℕ) (n : ℕ) → span_of w ≡ Some n → (n ≤ TRANSFER_LIMIT) × (w ≡ decimal n)
 span_is w n e =
-    let b = bind_some (number_of w) (λ k. cond (nat_le k transfer_limit) (Some k) None) n e in
-    let g = guard (nat_le b.0 transfer_limit) (Some b.0) n b.2 in
-    subst (λ k. (k ≤ transfer_limit) × (w ≡ decimal k)) (same_Some b.0 n g.1) (leb-true b.0 transfer_limit g.0, (number_is_text w b.0 b.1).text)
+    let b = bind_some (number_of w) (λ k. cond (nat_le k TRANSFER_LIMIT) (Some k) None) n e in
+    let g = guard (nat_le b.0 TRANSFER_LIMIT) (Some b.0) n b.2 in
+    subst (λ k. (k ≤ TRANSFER_LIMIT) × (w ≡ decimal k)) (same_Some b.0 n g.1) (leb-true b.0 TRANSFER_LIMIT g.0, (number_is_text w b.0 b.1).text)
 
 data_is : (w : List ℕ) (d : Data) → data_of w ≡ Some d → IsData d × (w ≡ data_text d)
 data_is w d e =
     let g = guard (starts_with nat_eq w (codes "t:")) (text_of (drop 2 w)) d e in
-    let h = guard (list_all is_text_byte (drop 2 w) && nat_le (length (drop 2 w)) transfer_limit) (Some (Text (drop 2 w))) d g.1 in
-    let t = and_parts (list_all is_text_byte (drop 2 w)) (nat_le (length (drop 2 w)) transfer_limit) h.0 in
+    let h = guard (list_all is_text_byte (drop 2 w) && nat_le (length (drop 2 w)) TRANSFER_LIMIT) (Some (Text (drop 2 w))) d g.1 in
+    let t = and_parts (list_all is_text_byte (drop 2 w)) (nat_le (length (drop 2 w)) TRANSFER_LIMIT) h.0 in
     let whole : w ≡ codes "t:" ++ drop 2 w = (starts_is Decides-eqb w (codes "t:") (starts_with nat_eq w (codes "t:")) refl).0 g.0 in
-    subst (λ k. IsData k × (w ≡ data_text k)) (same_Some (Text (drop 2 w)) d h.1) ((t.0, leb-true (length (drop 2 w)) transfer_limit t.1), whole)
+    subst (λ k. IsData k × (w ≡ data_text k)) (same_Some (Text (drop 2 w)) d h.1) ((t.0, leb-true (length (drop 2 w)) TRANSFER_LIMIT t.1), whole)
 
 -- these words say this operation
 abbrev SaysOp : List ℕ → List (List ℕ) → Op → Type 0
@@ -151,13 +152,13 @@ line_is_text h t l e =
 
 -- ---- what is spelled so is read
 
-span_again : (n : ℕ) → n ≤ transfer_limit → span_of (decimal n) ≡ Some n
+span_again : (n : ℕ) → n ≤ TRANSFER_LIMIT → span_of (decimal n) ≡ Some n
 span_again n le =
     let lt : n < 2 ^ 64 = omega arith in
-    rw (text_is_number n lt, le-leb n transfer_limit le) refl
+    rw (text_is_number n lt, le-leb n TRANSFER_LIMIT le) refl
 
 data_again : (d : Data) → IsData d → data_of (data_text d) ≡ Some d
-data_again (Text bytes) h = rw (h.0, le-leb (length bytes) transfer_limit h.1) refl
+data_again (Text bytes) h = rw (h.0, le-leb (length bytes) TRANSFER_LIMIT h.1) refl
 
 op_again : (h : Shape) (r p : List ℕ) (o : Op) → IsOp o → line_of_words h (r ∷ op_words o p) ≡ op_line_of h r p (Some o)
 op_again h r p ops.Create i = refl

@@ -3,14 +3,15 @@ use Rattle.std.proofs.Common.{◌≡◌, ℕ, ◌+◌, ◌≤◌, Bool, true, fa
 use Rattle.std.specs.Prelude.{IfOk}
 use Rattle.std.specs.List.{AllByRecursion}
 use Rattle.std.proofs.lemmas.Bool.Decides.{nat_tests}
+use Rattle.fs_script.specs.declared.limits.TheConstants.{LINE_LIMIT, SCRIPT_LIMIT}
 use Rattle.fs_script.specs.declared.shape.Shape.{Shape}
 use Rattle.fs_script.specs.declared.line.Line.{Line}
 use Rattle.fs_script.specs.declared.fault.ScriptFault.{ScriptFault}
 use Rattle.fs_script.specs.declared.fault.ScriptFault.TheVariants as faults
 use Rattle.fs_script.specs.Job.{Job}
-use Rattle.fs_script.specs.Grammar.{IsLine, IsJob, SpellLines, SpellJob, IsScript, lines_of, script_limit, line_limit}
+use Rattle.fs_script.specs.Grammar.{IsLine, IsJob, SpellLines, SpellJob, IsScript, lines_of}
 use Rattle.fs_script.specs.Reading.{header_of, line_of, line_or_fault, lines_from, with_shape, after_header, job_of_lines, job_of}
-use Rattle.fs_script.specs.Outcome.{Gives}
+use Rattle.fs_script.specs.Returned.{Gives}
 use Rattle.fs_script.proofs.Reading.Headers.{header_is_text, text_is_header}
 use Rattle.fs_script.proofs.Reading.OpLines.{line_is_text, text_is_line}
 
@@ -92,18 +93,18 @@ not_too_long false true r s e = absurd cc
 not_too_long false false r s e = (refl, refl, e)
 
 -- within the limits nothing is too long
-pub within_limits : (bytes : List ℕ) → length bytes ≤ script_limit → length (lines_of bytes) ≤ line_limit → job_of bytes ≡ job_of_lines (lines_of bytes)
-within_limits bytes size few = rw (not_above (length bytes) script_limit size, not_above (length (lines_of bytes)) line_limit few) refl
+pub within_limits : (bytes : List ℕ) → length bytes ≤ SCRIPT_LIMIT → length (lines_of bytes) ≤ LINE_LIMIT → job_of bytes ≡ job_of_lines (lines_of bytes)
+within_limits bytes size few = rw (not_above (length bytes) SCRIPT_LIMIT size, not_above (length (lines_of bytes)) LINE_LIMIT few) refl
 
 record Short (bytes : List ℕ) (s : Job) : Type 0 where
-  size : length bytes ≤ script_limit
-  few : length (lines_of bytes) ≤ line_limit
+  size : length bytes ≤ SCRIPT_LIMIT
+  few : length (lines_of bytes) ≤ LINE_LIMIT
   read : job_of_lines (lines_of bytes) ≡ Ok s
 
 short : (bytes : List ℕ) (s : Job) → job_of bytes ≡ Ok s → Short bytes s
 short bytes s e =
-    let g = not_too_long (nat_lt script_limit (length bytes)) (nat_lt line_limit (length (lines_of bytes))) (job_of_lines (lines_of bytes)) s e in
-    record { size = at_most (length bytes) script_limit g.0; few = at_most (length (lines_of bytes)) line_limit g.1; read = g.2 }
+    let g = not_too_long (nat_lt SCRIPT_LIMIT (length bytes)) (nat_lt LINE_LIMIT (length (lines_of bytes))) (job_of_lines (lines_of bytes)) s e in
+    record { size = at_most (length bytes) SCRIPT_LIMIT g.0; few = at_most (length (lines_of bytes)) LINE_LIMIT g.1; read = g.2 }
 
 -- what is read is a script
 pub job_is_script : (bytes : List ℕ) (s : Job) → job_of bytes ≡ Ok s → IsScript bytes s
@@ -115,7 +116,7 @@ job_is_script bytes s e =
 pub script_is_job : (bytes : List ℕ) (s : Job) → IsScript bytes s → job_of bytes ≡ Ok s
 script_is_job bytes s h = within_limits bytes h.size h.lines ∙ spelled_job_is_read (lines_of bytes) s h.spelled
 
-spelled_fits : (ts : List (List ℕ)) (s : Job) → length ts ≤ line_limit → SpellJob s ts → IsJob s
+spelled_fits : (ts : List (List ℕ)) (s : Job) → length ts ≤ LINE_LIMIT → SpellJob s ts → IsJob s
 spelled_fits [] s few h = absurd h
 spelled_fits (t ∷ ts) s few h =
     let f = lines_fit s.shape s.lines ts h.2 in

@@ -3,8 +3,9 @@
 ghost use Rattle.std.specs.Prelude.{◌≡◌, ◌&&◌, map, codes};
 ghost use Rattle.std.specs.Str.{bytes_eq};
 ghost use Rattle.fs_script.specs.Reading.{is_shape, checked_shape, shape_of, header_of_words, header_of};
-ghost use Rattle.fs_script.specs.Outcome.{Finds};
+ghost use Rattle.fs_script.specs.Returned.{Finds};
 
+use crate::limits::{CHUNK_UNIT, LEAST_CHUNK, MEMORY_BYTES, MEMORY_SLOTS, MOST_CHUNK};
 use crate::read::number::field;
 use crate::read::part_fault::PartFault;
 use crate::read::words::words;
@@ -17,12 +18,12 @@ fn checked_shape(servers: u64, clients: u64, chunk: u64, shmem: u64, spill: u64)
 {
     let is_shape = servers == 1
         && clients == 1
-        && 64 <= chunk
-        && chunk <= 65_536
-        && chunk % 8 == 0
+        && LEAST_CHUNK <= chunk
+        && chunk <= MOST_CHUNK
+        && chunk % CHUNK_UNIT == 0
         && 1 <= shmem
-        && shmem <= 65_536
-        && shmem * chunk <= 268_435_456
+        && shmem <= MEMORY_SLOTS
+        && shmem * chunk <= MEMORY_BYTES
         && spill == 0;
     if !is_shape {
         return None;

@@ -2,8 +2,9 @@
 
 ghost use Rattle.std.specs.Prelude.{◌≡◌, map};
 ghost use Rattle.fs_script.specs.Reading.{rank_of, path_of, span_of, data_of, op_without_numbers, write_of, read_of, op_with_numbers, op_of_words, op_line_of, line_of_words, line_of, text_of};
-ghost use Rattle.fs_script.specs.Outcome.{Finds};
+ghost use Rattle.fs_script.specs.Returned.{Finds};
 
+use crate::limits::TRANSFER_LIMIT;
 use crate::line::{Data, Line, Op, OpLine};
 use crate::read::number::read_number;
 use crate::read::part_fault::PartFault;
@@ -12,9 +13,6 @@ use crate::shape::Shape;
 use crate::text_bytes::TextBytes;
 use fs_types::{Path, PathFault, Rank};
 use std::alloc::Global;
-
-/// The most bytes that one line writes or reads.
-const TRANSFER_LIMIT: u64 = 16_777_216;
 
 fn rank(shape: &Shape, word: &[u8]) -> Option<Rank>
     ensures { result ≡ rank_of shape.now word.now }

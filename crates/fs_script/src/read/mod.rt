@@ -2,9 +2,9 @@
 
 ghost use Rattle.std.specs.Prelude.{◌≡◌, ◌≤◌, ◌⊎◌, ◌<◌, length, Ok, Err, IfOk, IfErr};
 ghost use Rattle.fs_script.specs.Job.{Job};
-ghost use Rattle.fs_script.specs.Grammar.{IsScript, lines_of, script_limit, line_limit};
+ghost use Rattle.fs_script.specs.Grammar.{IsScript, lines_of};
 ghost use Rattle.fs_script.specs.Reading.{lines_from, job_of};
-ghost use Rattle.fs_script.specs.Outcome.{Gives};
+ghost use Rattle.fs_script.specs.Returned.{Gives};
 
 mod header;
 mod line;
@@ -14,6 +14,7 @@ mod part_fault;
 mod words;
 
 use crate::fault::{Reason, ScriptFault};
+use crate::limits::{LINE_LIMIT, SCRIPT_LIMIT};
 use crate::line::Line;
 use crate::script::Script;
 use crate::shape::Shape;
@@ -25,15 +26,9 @@ pub use number::read_number;
 use part_fault::PartFault;
 use std::alloc::Global;
 
-/// The most bytes of a script.
-const SCRIPT_LIMIT: usize = 4_194_304;
-
-/// The most lines of a script.
-const LINE_LIMIT: usize = 65_536;
-
 /// The lines that the text says, of which the first is line 2 of the script.
 fn lines_after_header(alloc: Global, shape: &Shape, text: &[u8]) -> Result<Vec<Line>, ScriptFault>
-    requires { length (lines_of text.now) < line_limit }
+    requires { length (lines_of text.now) < LINE_LIMIT }
     ensures { Gives (λ v. v.items) result (lines_from shape.now 2 (lines_of text.now)) }
 {
     let mut lines = Vec::new(alloc);
@@ -57,8 +52,8 @@ fn lines_after_header(alloc: Global, shape: &Shape, text: &[u8]) -> Result<Vec<L
 
 /// The script that a text within the limits is.
 fn script(alloc: Global, text: &[u8]) -> Result<Script, ScriptFault>
-    requires size { length text.now ≤ script_limit }
-    requires lines { length (lines_of text.now) ≤ line_limit }
+    requires size { length text.now ≤ SCRIPT_LIMIT }
+    requires lines { length (lines_of text.now) ≤ LINE_LIMIT }
     ensures { Gives (λ s. s) result (job_of text.now) }
 {
     let Some((first, others)) = next_line(text) else {

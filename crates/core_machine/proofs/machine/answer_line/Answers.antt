@@ -1,7 +1,7 @@
 use Rattle.std.proofs.Common.{◌≡◌, ℕ, ◌<◌, suc, false, List, length, set, refl, sym, subst, arith, add-one}
 use Rattle.std.proofs.lemmas.Option.{slice_get_within}
 use Rattle.fs_types.specs.declared.answer.Answer.{Answer}
-use Rattle.fs_types.specs.Answers.{Given, put_answer}
+use Rattle.fs_types.specs.AnswerList.{Given, put_answer}
 use Rattle.core_machine.specs.declared.path_state.PathState.{PathState}
 use Rattle.core_machine.specs.PathState.{IsSound}
 use Rattle.core_machine.specs.PathView.{view, outcome}

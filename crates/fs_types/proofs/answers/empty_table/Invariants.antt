@@ -1,5 +1,5 @@
 use Rattle.std.proofs.Common.{◌≡◌, [], vec_len}
-use Rattle.fs_types.specs.Answers.{listed}
+use Rattle.fs_types.specs.AnswerList.{listed}
 use Rattle.fs_types.proofs.answers.empty_table.Given as goal
 
 abbrev pub invariant-loop : goal.invariant-loop

@@ -3,7 +3,7 @@ use Rattle.std.proofs.lemmas.Bool.Decides.{nat_tests}
 use Rattle.std.proofs.lemmas.Grind.{common_steps}
 use Rattle.fs_types.specs.PathText.{is_component, between_slashes, mount_point}
 use Rattle.std.specs.List.{list_all, starts_with}
-use Rattle.fs_types.proofs.path.is_path_text.Goals.{then-b-le-LONGEST, else-b-le-LONGEST}
+use Rattle.fs_types.proofs.path.is_path_text.Goals.{then-b-le-LONGEST_PATH, else-b-le-LONGEST_PATH}
 use Rattle.fs_types.proofs.path.is_path_text.Goals as goal
 
 and_last : (a b c r : Bool) → a ≡ true → b ≡ true → r ≡ c → r ≡ (a && b && c)
@@ -16,12 +16,12 @@ rest_of b = grind (arith, common_steps)
 
 pub returns-then-starts_with : goal.returns-then-starts_with
 returns-then-starts_with c =
-    elim c.if-b-le-LONGEST.branch [
-      | then-b-le-LONGEST w ↦
+    elim c.if-b-le-LONGEST_PATH.branch [
+      | then-b-le-LONGEST_PATH w ↦
           let b = c.args.b.now in
           let short : nat_le (length b) 255 ≡ true = grind (arith, nat_tests) in
           let starts : starts_with nat_eq b mount_point ≡ true = cc w.starts_with.ensures.value in
           let rest = rw rest_of at c.are_components.ensures in
           and_last (nat_le (length b) 255) (starts_with nat_eq b mount_point) (list_all is_component (between_slashes (drop 9 b))) c.are_components.result short starts rest
-      | else-b-le-LONGEST w ↦ grind (arith, nat_tests)
+      | else-b-le-LONGEST_PATH w ↦ grind (arith, nat_tests)
     ]

@@ -1,0 +1,70 @@
+-- What each operation does, needs and asks for, one case for each: the table of answers and the journals are built on these.
+use Rattle.std.specs.Prelude.{ℕ, Bool, true, false, List, [], ◌∷◌, Option, Some, None}
+use Rattle.fs_script.specs.declared.line.Op.{Op}
+use Rattle.fs_script.specs.declared.line.Op.TheVariants as ops
+
+-- whether a list has an entry
+abbrev pub has_any : List ℕ → Bool
+has_any [] = false
+has_any (n ∷ ns) = true
+
+-- it may be done only on a path that its client has opened
+abbrev pub needs_open : Op → Bool
+needs_open ops.Create = false
+needs_open (ops.Write off text) = true
+needs_open ops.Sync = true
+needs_open (ops.Read off len) = true
+
+-- once it is done its client has opened the path
+abbrev pub opens_path : Op → Bool
+opens_path ops.Create = true
+opens_path (ops.Write off text) = false
+opens_path ops.Sync = false
+opens_path (ops.Read off len) = false
+
+-- it may be done only where there is a file
+abbrev pub needs_file : Op → Bool
+needs_file ops.Create = false
+needs_file (ops.Write off text) = true
+needs_file ops.Sync = true
+needs_file (ops.Read off len) = true
+
+-- it may be done only where there is no file
+abbrev pub needs_no_file : Op → Bool
+needs_no_file ops.Create = true
+needs_no_file (ops.Write off text) = false
+needs_no_file ops.Sync = false
+needs_no_file (ops.Read off len) = false
+
+-- with these lines pending, it may be done only on a file that isn't frozen
+abbrev pub needs_unfrozen : Op → List ℕ → Bool
+needs_unfrozen ops.Create q = false
+needs_unfrozen (ops.Write off text) q = true
+needs_unfrozen ops.Sync q = has_any q
+needs_unfrozen (ops.Read off len) q = false
+
+-- with these lines pending, it is committed once it is done: a create, and a sync of something
+abbrev pub commits : Op → List ℕ → Bool
+commits ops.Create q = true
+commits (ops.Write off text) q = false
+commits ops.Sync q = has_any q
+commits (ops.Read off len) q = false
+
+-- where it isn't committed, it may find a file as it is
+abbrev pub finds_file : Op → Bool
+finds_file ops.Create = false
+finds_file (ops.Write off text) = false
+finds_file ops.Sync = true
+finds_file (ops.Read off len) = false
+
+-- the bytes that a read asks for: from a place on, so many
+pub record Range : Type 0 where
+  pub off : ℕ
+  pub len : ℕ
+
+-- the range of the file that an operation shows, if it does
+abbrev pub asked : Op → Option Range
+asked ops.Create = None
+asked (ops.Write off text) = None
+asked ops.Sync = None
+asked (ops.Read off len) = Some (record { off = off; len = len })
