@@ -1,6 +1,7 @@
 -- What a run reports at its end is legal: each event keeps the moment legal.
-pub mod Journals
+pub mod Event
 pub mod Events
+pub mod Journals
 pub mod Phases
 pub mod Turns
 pub mod Ends

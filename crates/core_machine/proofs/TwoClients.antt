@@ -1,5 +1,5 @@
 -- Moments of two clients with a barrier between their lines, worked out by hand.
-use Rattle.std.proofs.Common.{◌≡◌, [], ◌∷◌, refl, false}
+use Rattle.std.proofs.Common.{◌≡◌, ℕ, [], ◌∷◌, refl, false}
 use Rattle.std.specs.Prelude.{codes}
 use Rattle.fs_types.specs.declared.answer.Answer.TheVariants as answers
 use Rattle.fs_script.specs.declared.line.Line.TheVariants as lines
@@ -7,10 +7,12 @@ use Rattle.fs_script.specs.declared.line.Op.TheVariants as ops
 use Rattle.fs_script.specs.declared.line.Data.TheVariants.{Text}
 use Rattle.fs_script.specs.Job.{Job}
 use Rattle.fs_script.proofs.FiveLines.{path_a, on_a}
-use Rattle.core_machine.specs.Moment.{Moment, ready}
-use Rattle.core_machine.specs.Event.{step}
+use Rattle.core_machine.specs.Doing.{nothing}
+use Rattle.core_machine.specs.Moment.{Client, Moment, fresh_client, ready}
+use Rattle.core_machine.specs.Step.{Turn, step}
 
--- client 0 makes a file; after the barrier it writes line 4 and commits it, and client 1 tries to make the file again
+-- client 0 makes a file; after the barrier it writes line 4 and commits it, and client 1 tries to
+-- make the file again
 abbrev two_clients : Job
 two_clients = record {
   shape = record { servers = 1; clients = 2; chunk = 64; shmem = 4; spill = 0 };
@@ -24,23 +26,43 @@ two_clients = record {
 }
 
 abbrev start : Moment
-start = record { job = two_clients; places = 0 ∷ 0 ∷ []; answers = []; journals = (path_a, []) ∷ []; spent = false }
+start = record {
+  job = two_clients;
+  clients = fresh_client ∷ fresh_client ∷ [];
+  answers = [];
+  journals = (path_a, []) ∷ [];
+  spent = false;
+}
+
+-- whose turn it is
+abbrev turn_of : ℕ → Turn
+turn_of r = record { client = r }
+
+-- a client that has done one line
+abbrev after_one : Client
+after_one = record { place = 1; doing = nothing }
 
 -- client 1 has a line, whose phase hasn't begun
 first_phase : ready start ≡ 0 ∷ []
 first_phase = refl
 
 abbrev second : Moment
-second = step start 0
+second = step start (turn_of 0)
 
 second_phase : ready second ≡ 0 ∷ 1 ∷ []
 second_phase = refl
 
 -- client 1 goes first, and then has no line left
 abbrev other_first : Moment
-other_first = step second 1
+other_first = step second (turn_of 1)
 
-other_is : other_first ≡ record { job = two_clients; places = 1 ∷ 1 ∷ []; answers = (2, answers.Done 1) ∷ (5, answers.Exists 1) ∷ []; journals = (path_a, 2 ∷ []) ∷ []; spent = false }
+other_is : other_first ≡ record {
+  job = two_clients;
+  clients = after_one ∷ after_one ∷ [];
+  answers = (2, answers.Done 1) ∷ (5, answers.Exists 1) ∷ [];
+  journals = (path_a, 2 ∷ []) ∷ [];
+  spent = false;
+}
 other_is = refl
 
 other_done : ready other_first ≡ 0 ∷ []
@@ -48,9 +70,10 @@ other_done = refl
 
 -- it goes last, and finds the version that client 0 made
 abbrev other_last : Moment
-other_last = step (step (step second 0) 0) 1
+other_last = step (step (step second (turn_of 0)) (turn_of 0)) (turn_of 1)
 
-last_is : other_last.answers ≡ (2, answers.Done 1) ∷ (4, answers.Wrote 1) ∷ (5, answers.Exists 2) ∷ (6, answers.Done 2) ∷ []
+last_is : other_last.answers
+    ≡ (2, answers.Done 1) ∷ (4, answers.Wrote 1) ∷ (5, answers.Exists 2) ∷ (6, answers.Done 2) ∷ []
 last_is = refl
 
 none_ready_at_end : ready other_last ≡ []

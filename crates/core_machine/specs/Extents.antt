@@ -1,27 +1,19 @@
 -- Extents: the ranges that accepted writes cover, and the bytes that they make, one put over the other.
-use Rattle.std.specs.Prelude.{◌≡◌, ℕ, ◌+◌, ◌-◌, ◌<◌, ◌≤◌, ◌&&◌, nat_le, nat_lt, List, [], length, map, slice_index, Option, Some, None, if◌then◌else◌}
+use Rattle.std.specs.Prelude.{◌≡◌, ℕ, ◌+◌, ◌-◌, ◌<◌, ◌≤◌, ◌&&◌, nat_le, nat_lt, List, [], length, map, slice_index, IsSome, if◌then◌else◌}
 use Rattle.std.specs.List.{AllByRecursion}
-use Rattle.fs_types.specs.PlainFile.{longest_file}
-use Rattle.fs_script.specs.declared.line.OpLine.{OpLine}
-use Rattle.fs_script.specs.declared.line.Op.TheVariants as ops
-use Rattle.fs_script.specs.declared.line.Data.{Data}
-use Rattle.fs_script.specs.Job.{Job, op_at}
-use Rattle.fs_script.specs.Payload.{payload, offset, bytes_of, IsWrite}
+use Rattle.fs_types.specs.declared.limits.TheConstants.{LONGEST_FILE}
+use Rattle.fs_script.specs.Job.{Job}
+use Rattle.fs_script.specs.Payload.{write_at, payload, offset, bytes_of}
 use Rattle.fs_script.specs.Effect.{put_lines}
 use Rattle.core_machine.specs.declared.extent.Extent.{Extent}
 
--- the line is this write
-abbrev pub IsWriteOf : Option OpLine → ℕ → Data → Type 0
-IsWriteOf None off text = ⊥
-IsWriteOf (Some o) off text = o.op ≡ ops.Write off text
-
 -- the range of a write of the job that brings bytes and ends within the longest file
 pub record IsExtent (s : Job) (x : Extent) : Type 0 where
-  pub write : IsWrite (op_at s x.line)
+  pub write : IsSome (write_at s x.line)
   pub at : x.at ≡ offset s x.line
   pub len : x.len ≡ length (payload s x.line)
   pub some : 0 < x.len
-  pub end : x.at + x.len ≤ longest_file
+  pub end : x.at + x.len ≤ LONGEST_FILE
 
 abbrev pub AreExtents : Job → List Extent → Type 0
 AreExtents s xs = AllByRecursion (IsExtent s) xs

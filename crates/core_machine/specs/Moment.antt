@@ -1,5 +1,5 @@
 -- Moments of a simulated run: how far each client has come, the answers and the journals so far.
-use Rattle.std.specs.Prelude.{◌≡◌, ℕ, ◌-◌, Bool, false, ◌||◌, nat_le, List, [], ◌∷◌, ◌++◌, length, map, filter, sum_by, is_some, replicate, Option, Some, None, slice_index, if◌then◌else◌}
+use Rattle.std.specs.Prelude.{◌≡◌, ℕ, ◌-◌, Bool, false, ◌||◌, nat_le, List, [], ◌∷◌, ◌++◌, length, map, filter, sum_by, is_some, replicate, Option, Some, None, slice_index_or, if◌then◌else◌}
 use Rattle.std.specs.List.{slice_get, range_with_len, list_all, AllByRecursion}
 use Rattle.std.specs.Str.{bytes_eq}
 use Rattle.fs_types.specs.declared.answer.Answer.{Answer}
@@ -9,20 +9,35 @@ use Rattle.fs_script.specs.Job.{Job, op_lines, phase, program}
 use Rattle.fs_script.specs.Pending.{Answering}
 use Rattle.fs_script.specs.Effect.{state}
 use Rattle.fs_script.specs.Report.{journal_of, ArePaths}
+use Rattle.core_machine.specs.Doing.{Doing, nothing}
+
+-- how many lines of its program a client has done, and what it is in the midst of
+pub record Client : Type 0 where
+  pub place : ℕ
+  pub doing : Doing
+
+-- a client before its first line
+abbrev pub fresh_client : Client
+fresh_client = record { place = 0; doing = nothing }
 
 pub record Moment : Type 0 where
   pub job : Job
-  -- for each client, how many lines of its program were answered
-  pub places : List ℕ
+  -- one for each client, by rank
+  pub clients : List Client
+  -- the answers that were printed
   pub answers : List (ℕ × Answer)
   -- for each path that the script names, in byte order
   pub journals : List (List ℕ × List ℕ)
   -- want of memory ended the run
   pub spent : Bool
 
--- the answers so far, by line
+-- the answers that were printed, by line: the end of a phase and the report look at these
+abbrev pub printed : Moment → Answering
+printed m = answer_at m.answers
+
+-- the answers that count, by line: pending writes, fronts and states look at these. No line counts before it is printed.
 abbrev pub answering : Moment → Answering
-answering m = answer_at m.answers
+answering m = printed m
 
 -- the journal of a path so far
 abbrev pub journal : Moment → List ℕ → List ℕ
@@ -32,13 +47,16 @@ journal m p = journal_of m.journals p
 abbrev pub file_now : Moment → List ℕ → File ℕ
 file_now m p = state m.job (answering m) (journal m p) (length (journal m p))
 
--- the line that comes next in a client's program
-abbrev pub next_line : Moment → ℕ → Option ℕ
-next_line m r = slice_get (program m.job r) (slice_index m.places r)
+abbrev pub client_of : Moment → ℕ → Client
+client_of m r = slice_index_or m.clients r fresh_client
 
--- whether the phase of line n has begun: each operation has an answer, or is of no earlier phase
+-- the line of its program that a client does now, or does next
+abbrev pub next_line : Moment → ℕ → Option ℕ
+next_line m r = slice_get (program m.job r) (client_of m r).place
+
+-- whether the phase of line n has begun: each operation was answered, or is of no earlier phase
 abbrev pub has_begun : Moment → ℕ → Bool
-has_begun m n = list_all (λ k. is_some (answering m k) || nat_le (phase m.job n) (phase m.job k)) (op_lines m.job)
+has_begun m n = list_all (λ k. is_some (printed m k) || nat_le (phase m.job n) (phase m.job k)) (op_lines m.job)
 
 -- whether there is such a line, and its phase has begun
 abbrev pub may_come : Moment → Option ℕ → Bool
@@ -51,7 +69,7 @@ ready m = if m.spent then [] else filter (λ r. may_come m (next_line m r)) (ran
 
 -- how many lines of the clients' programs have no answer yet
 abbrev pub events_left : Moment → ℕ
-events_left m = sum_by (λ r. length (program m.job r) - slice_index m.places r) (range_with_len 0 m.job.shape.clients)
+events_left m = sum_by (λ r. length (program m.job r) - (client_of m r).place) (range_with_len 0 m.job.shape.clients)
 
 -- the journals with a line at the end of one path's
 abbrev pub with_entry : List ℕ → ℕ → List (List ℕ × List ℕ) → List (List ℕ × List ℕ)
@@ -60,7 +78,7 @@ with_entry p n js = map (λ j. if bytes_eq j.0 p then (j.0, j.1 ++ n ∷ []) els
 -- the run begins: nothing was answered, and every journal is empty
 pub record IsFirst (s : Job) (m : Moment) : Type 0 where
   pub job : m.job ≡ s
-  pub places : m.places ≡ replicate s.shape.clients 0
+  pub clients : m.clients ≡ replicate s.shape.clients fresh_client
   pub answers : m.answers ≡ []
   pub paths : ArePaths s (map (λ j. j.0) m.journals)
   pub journals : AllByRecursion (λ j. j.1 ≡ []) m.journals

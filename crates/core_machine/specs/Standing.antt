@@ -1,56 +1,61 @@
--- When what the core keeps for the paths of a job stands for the answers and the journals so far.
-use Rattle.std.specs.Prelude.{◌≡◌, ℕ, ◌<◌, ◌≤◌, ◌+◌, ◌-◌, Bool, false, List, [], ◌∷◌, length, map, Option, Some, None}
-use Rattle.std.specs.List.{slice_get, zip, range_with_len, AllByRecursion}
+-- When what the core keeps for the paths of a job stands for the answers so far. What is kept for a client stands for them
+-- as seen from the script's end: a line without an answer changes nothing there, so no client's place comes in.
+use Rattle.std.specs.Prelude.{◌≡◌, ℕ, ◌<◌, ◌≤◌, ◌+◌, nat_lt, count_by, List, length, slice_index, IsSome, IfSome, Some}
+use Rattle.std.specs.List.{slice_get, AllByRecursion}
 use Rattle.fs_types.specs.AnswerList.{Given, answer_at}
-use Rattle.fs_types.specs.PlainFile.{File}
-use Rattle.fs_script.specs.Job.{Job}
-use Rattle.fs_script.specs.Payload.{bytes_of}
+use Rattle.fs_script.specs.Job.{Job, phase}
 use Rattle.fs_script.specs.Pending.{Answering, pending}
-use Rattle.fs_script.specs.Effect.{put_lines, state}
-use Rattle.fs_script.specs.Front.{is_open}
+use Rattle.fs_script.specs.Effect.{state}
+use Rattle.fs_script.specs.Front.{is_open, seen}
 use Rattle.fs_script.specs.Grammar.{IsJob}
 use Rattle.fs_script.specs.Report.{ArePaths}
+use Rattle.core_machine.specs.declared.path_state.OwnedPath.{OwnedPath}
+use Rattle.core_machine.specs.declared.path_state.ClientPath.{ClientPath}
 use Rattle.core_machine.specs.declared.path_state.PathState.{PathState}
-use Rattle.core_machine.specs.PathState.{IsSound}
-use Rattle.core_machine.specs.PathView.{PathView, view}
-use Rattle.core_machine.specs.Moment.{Moment}
+use Rattle.core_machine.specs.Event.{known_of}
+use Rattle.core_machine.specs.Extents.{AreExtents}
+use Rattle.core_machine.specs.Kept.{file_of, known_from, pending_lines}
+use Rattle.core_machine.specs.LegalSoFar.{IsAnsweredUpTo}
+use Rattle.core_machine.specs.Turns.{Places}
 
--- the file that these lines wrote, one after the other
-abbrev pub file_of : Job → Option (List ℕ) → File ℕ
-file_of s None = None
-file_of s (Some ls) = Some (record { cells = put_lines s (bytes_of s) ls []; frozen = false })
+-- the line after the script's last
+abbrev pub end_of : Job → ℕ
+end_of s = length s.lines + 2
 
--- a path's view is that of the answers before line n, for client 0
-pub record StandsFor (s : Job) (A : Answering) (n : ℕ) (p : List ℕ) (v : PathView) : Type 0 where
-  pub earlier : AllByRecursion (λ m. m < n) v.journal
-  pub file : file_of s v.written ≡ state s A v.journal (length v.journal)
-  pub opened : v.is_open ≡ is_open s A 0 p n
-  pub pending : v.pending ≡ pending s A 0 p n
+-- the owner's part: all lines of the journal were answered, the file is what they make, and the board has how many of
+-- them are of earlier phases than the run's, with what is known of the file then
+pub record StandsForOwner (s : Job) (A : Answering) (now : ℕ) (x : OwnedPath) : Type 0 where
+  pub answered : AllByRecursion (λ m. IsSome (A m)) x.journal.items
+  pub written : IfSome x.file (λ xs. AreExtents s xs.items)
+  pub file : file_of s x.file ≡ state s A x.journal.items (length x.journal.items)
+  pub told : x.board.version ≡ count_by (λ m. nat_lt (phase s m) now) x.journal.items
+  pub known : known_from x.board ≡ known_of (state s A x.journal.items x.board.version)
 
-pub record Stands (s : Job) (A : Answering) (n : ℕ) (p : List ℕ) (x : PathState) : Type 0 where
-  pub sound : IsSound s x
-  pub view : StandsFor s A n p (view x)
+-- client r's part of path p: whether it is open, what is pending, and the greatest version seen with what is known of the file
+pub record StandsForClient (s : Job) (A : Answering) (r : ℕ) (p : List ℕ) (x : OwnedPath) (k : ClientPath) : Type 0 where
+  pub opened : k.is_open ≡ is_open s A r p (end_of s)
+  pub pending : pending_lines k ≡ pending s A r p (end_of s)
+  pub extents : AreExtents s k.pending.items
+  pub seen : k.noted.version ≡ seen s A r p (end_of s)
+  pub within : k.noted.version ≤ length x.journal.items
+  pub known : known_from k.noted ≡ known_of (state s A x.journal.items k.noted.version)
 
--- the paths of the job, what is kept for each, and the answers to all lines before line n
-pub record Holds (s : Job) (paths : List (List ℕ)) (states : List PathState) (answers : Given) (n : ℕ) : Type 0 where
+-- all that is kept for path p
+pub record Stands (s : Job) (A : Answering) (now : ℕ) (p : List ℕ) (x : PathState) : Type 0 where
+  pub owned : StandsForOwner s A now x.owned
+  pub sized : length x.clients.items ≡ s.shape.clients
+  pub clients : (r : ℕ) (k : ClientPath) → slice_get x.clients.items r ≡ Some k → StandsForClient s A r p x.owned k
+
+-- the paths of the job and what is kept for each, the answers, and whose turn it is
+pub record Holds (s : Job) (paths : List (List ℕ)) (states : List PathState) (answers : Given) (turns : Places) : Type 0 where
   pub job : IsJob s
+  pub same : turns.job ≡ s
   pub named : ArePaths s paths
   pub kept : length states ≡ length paths
+  pub clients : length turns.places ≡ s.shape.clients
   pub room : answers.lines ≡ length s.lines + 1
-  pub begun : 2 ≤ n
-  pub within : n ≤ length s.lines + 2
-  pub answered : map (λ a. a.0) answers.list ≡ range_with_len 2 (n - 2)
-  pub each : (i : ℕ) (p : List ℕ) (x : PathState) → slice_get paths i ≡ Some p → slice_get states i ≡ Some x → Stands s (answer_at answers.list) n p x
-
-abbrev pub journals_of : List (List ℕ) → List PathState → List (List ℕ × List ℕ)
-journals_of paths states = zip paths (map (λ x. x.journal.items) states)
-
--- the moment that they stand for
-abbrev pub moment_of : Job → List (List ℕ) → List PathState → Given → ℕ → Bool → Moment
-moment_of s paths states answers n spent = record {
-  job = s;
-  places = (n - 2) ∷ [];
-  answers = answers.list;
-  journals = journals_of paths states;
-  spent = spent;
-}
+  -- each client's lines were answered up to its place, and no line of a later phase than the run's
+  pub upto : (r : ℕ) → r < s.shape.clients → IsAnsweredUpTo s (answer_at answers.list) r (slice_index turns.places r)
+  pub past : (m : ℕ) → IsSome (answer_at answers.list m) → phase s m ≤ turns.phase
+  pub each : (i : ℕ) (p : List ℕ) (x : PathState) → slice_get paths i ≡ Some p → slice_get states i ≡ Some x
+      → Stands s (answer_at answers.list) turns.phase p x

@@ -1,27 +1,24 @@
 //! What a report says of a path's file.
 
-ghost use Rattle.std.specs.Prelude.{◌≡◌, IfOk};
+ghost use Rattle.std.specs.Prelude.{◌≡◌, IfOk, IfSome};
 ghost use Rattle.fs_script.specs.Report.{file_state_of};
-ghost use Rattle.core_machine.specs.PathState.{IsSound};
-ghost use Rattle.core_machine.specs.PathView.{view};
-ghost use Rattle.core_machine.specs.Standing.{file_of};
+ghost use Rattle.core_machine.specs.Extents.{AreExtents};
+ghost use Rattle.core_machine.specs.Kept.{file_of};
 
 use crate::event::{digest, shown_bytes};
 use crate::extent::covered;
-use crate::path_state::PathState;
+use crate::path_state::OwnedPath;
 use fs_script::Script;
+use fs_script::limits::DIGEST_LIMIT;
 use fs_types::{FileState, Want};
 use std::alloc::Global;
 
-/// How many bytes of a file its digest is of, at most.
-const DIGEST_LIMIT: u64 = 16_777_216;
-
 /// The length of a path's file, whether it is frozen, and the digest of its first bytes.
-pub fn file_state(alloc: Global, s: &Script, state: &PathState) -> Result<FileState, Want>
-    requires { IsSound s.now state.now }
-    ensures { IfOk result (λ f. f ≡ file_state_of (file_of s.now (view state.now).written)) }
+pub fn file_state(alloc: Global, s: &Script, path: &OwnedPath) -> Result<FileState, Want>
+    requires { IfSome path.now.file (λ xs. AreExtents s.now xs.items) }
+    ensures { IfOk result (λ f. f ≡ file_state_of (file_of s.now path.now.file)) }
 {
-    let Some(extents) = &state.file else {
+    let Some(extents) = &path.file else {
         return Ok(FileState::Gone);
     };
     let n = covered(s, extents);

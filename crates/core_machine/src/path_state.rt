@@ -1,23 +1,101 @@
-//! What the core keeps for one path.
+//! What the core keeps for a path: at its owner, and for each client.
+
+ghost use Rattle.std.specs.Prelude.{◌≡◌, false, [], length, IfOk};
+ghost use Rattle.core_machine.specs.Kept.{IsFreshClient, IsFreshOwner, IsFreshPath, later_of};
 
 use crate::extent::Extent;
-use fs_types::LineNo;
+use crate::noted::Noted;
+use fs_types::{LineNo, Version, Want};
+use std::alloc::Global;
 
-/// A path's journal and file at its owner, and what the client keeps for it.
+/// A path's journal and file at its owner, and what all clients were told of it.
 #[derive(Debug, Drop)]
-pub struct PathState {
+pub struct OwnedPath {
     /// The committing lines, in the owner's order.
     pub journal: Vec<LineNo>,
     /// The extents that were committed, later ones over earlier; `None` where there is no file.
     pub file: Option<Vec<Extent>>,
-    pub client: ClientState,
+    /// The version at the end of the last phase.
+    pub board: Noted,
 }
 
 /// What a client keeps for a path.
 #[derive(Debug, Drop)]
-pub struct ClientState {
+pub struct ClientPath {
     /// Whether the client has opened the path.
     pub is_open: bool,
     /// Accepted writes that weren't committed yet, later ones over earlier.
     pub pending: Vec<Extent>,
+    /// The greatest version that the client has seen.
+    pub noted: Noted,
+}
+
+/// All that is kept for a path.
+#[derive(Debug, Drop)]
+pub struct PathState {
+    pub owned: OwnedPath,
+    /// What each client keeps for it, by rank.
+    pub clients: Vec<ClientPath>,
+}
+
+/// What is noted of a path on which nothing was done.
+const UNSEEN: Noted = Noted {
+    version: Version(0),
+    exists: false,
+};
+
+impl OwnedPath {
+    /// A path on which nothing was committed.
+    pub fn new(alloc: Global) -> OwnedPath
+        ensures { IsFreshOwner result }
+    {
+        OwnedPath {
+            journal: Vec::new(alloc),
+            file: None,
+            board: UNSEEN,
+        }
+    }
+
+    /// How many lines were committed.
+    pub fn version(&self) -> Version
+        ensures { result ≡ length self.now.journal.items }
+    {
+        Version(self.journal.len() as u64)
+    }
+}
+
+impl ClientPath {
+    /// A client that did nothing on the path.
+    pub fn new(alloc: Global) -> ClientPath
+        ensures { IsFreshClient result }
+    {
+        ClientPath {
+            is_open: false,
+            pending: Vec::new(alloc),
+            noted: UNSEEN,
+        }
+    }
+
+    /// Notes a version that the client was answered.
+    pub fn note(&mut self, version: Version, exists: bool)
+        ensures { self.new ≡ record self.old { noted = later_of (record { version = version; exists = exists }) self.old.noted } }
+    {
+        self.noted = Noted { version, exists }.later(self.noted);
+    }
+}
+
+impl PathState {
+    /// A path on which so many clients did nothing.
+    pub fn new(alloc: Global, clients: u32) -> Result<PathState, Want>
+        ensures { IfOk result (λ x. IsFreshPath clients x) }
+    {
+        let mut each = Vec::with_capacity(alloc, clients as usize)?;
+        for _ in 0..clients {
+            each.push(ClientPath::new(alloc))?;
+        }
+        Ok(PathState {
+            owned: OwnedPath::new(alloc),
+            clients: each,
+        })
+    }
 }

@@ -18,7 +18,7 @@ use Rattle.fs_script.proofs.States.{state_in-agree, state_in-push}
 -- ---- what an answer leaves as it was
 
 -- a line of a client on a path is a line of that client
-own_op-rank : (r : ℕ) (p : List ℕ) (o : Option OpLine) → IsSome (own_op r p o) → rank_in o ≡ Some r
+pub own_op-rank : (r : ℕ) (p : List ℕ) (o : Option OpLine) → IsSome (own_op r p o) → rank_in o ≡ Some r
 own_op-rank r p None h = absurd (true≢false (sym h))
 own_op-rank r p (Some o) h =
     elim (cases_Bool (o.rank == r && bytes_eq o.path p)) [

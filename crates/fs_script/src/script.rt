@@ -1,13 +1,16 @@
 //! A script that was read.
 
-ghost use Rattle.std.specs.Prelude.{◌≡◌, ◌≤◌, ◌+◌, length, take, drop, option_copied, IsSome};
+ghost use Rattle.std.specs.Prelude.{◌≡◌, ◌<◌, ◌≤◌, ◌+◌, length, take, drop, map, count_by, option_copied, IsSome, IfOk};
+ghost use Rattle.std.specs.List.{range_with_len};
 ghost use Rattle.fs_script.specs.Grammar.{IsJob};
-ghost use Rattle.fs_script.specs.Job.{line_at};
+ghost use Rattle.fs_script.specs.Job.{is_barrier, line_at, phase};
 ghost use Rattle.fs_script.specs.Payload.{write_at, payload};
 
+use crate::limits::LINE_LIMIT;
 use crate::line::{Data, Line, Op, OpLine};
 use crate::shape::Shape;
 use fs_types::LineNo;
+use std::alloc::{AllocError, Global};
 use std::marker::Model;
 
 /// A job script. A clause sees its shape and the list of its lines after the header.
@@ -15,25 +18,58 @@ use std::marker::Model;
 pub struct Script {
     shape: Shape,
     lines: Vec<Line>,
+    /// For each k up to the number of lines, how many of the first k are barriers.
+    phases: Vec<u32>,
 }
 
 impl Model for Script {
-    ghost use Rattle.fs_script.specs.Job.{Job};
+    ghost use Rattle.std.specs.Prelude.{◌≡◌, ◌+◌, length, take, map, count_by};
+    ghost use Rattle.std.specs.List.{range_with_len};
+    ghost use Rattle.fs_script.specs.Job.{Job, is_barrier};
     ghost use Rattle.fs_script.specs.Grammar.{IsJob};
 
     ghost Value = { Job };
 
     ghost view = { λ s. record { shape = s.shape; lines = s.lines.items } };
 
-    ghost invariant = { λ s. IsJob (record { shape = s.shape; lines = s.lines.items }) };
+    ghost invariant = { λ s. IsJob (record { shape = s.shape; lines = s.lines.items })
+        × (s.phases.items ≡ map (λ k. count_by is_barrier (take k s.lines.items))
+        (range_with_len 0 (length s.lines.items + 1))) };
+}
+
+fn is_barrier(line: &Line) -> bool
+    ensures { result ≡ is_barrier line.now }
+{
+    matches!(line, Line::Barrier)
+}
+
+/// For each k up to the number of lines, how many of the first k are barriers.
+fn phases(alloc: Global, lines: &[Line]) -> Result<Vec<u32>, AllocError>
+    requires { length lines.now < LINE_LIMIT }
+    ensures { IfOk result (λ v. v.items ≡ map (λ k. count_by is_barrier (take k lines.now))
+        (range_with_len 0 (length lines.now + 1))) }
+{
+    let mut phases = Vec::with_capacity(alloc, lines.len() + 1)?;
+    let mut phase = 0;
+    phases.push(phase)?;
+    for line in lines {
+        phase += u32::from(is_barrier(line));
+        phases.push(phase)?;
+    }
+    Ok(phases)
 }
 
 impl Script {
-    pub(crate) fn new(shape: Shape, lines: Vec<Line>) -> Script
+    pub(crate) fn new(alloc: Global, shape: Shape, lines: Vec<Line>) -> Result<Script, AllocError>
         requires { IsJob (record { shape = shape; lines = lines.items }) }
-        ensures { result ≡ record { shape = shape; lines = lines.items } }
+        ensures { IfOk result (λ s. s ≡ record { shape = shape; lines = lines.items }) }
     {
-        Script { shape, lines }
+        let phases = phases(alloc, &lines)?;
+        Ok(Script {
+            shape,
+            lines,
+            phases,
+        })
     }
 
     /// What the header says.
@@ -58,6 +94,15 @@ impl Script {
     {
         let index = n.0.checked_sub(2)?;
         self.lines.get(index as usize)
+    }
+
+    /// The phase of line `n`: how many barriers stand before it. Past the last line it is that of
+    /// a line after all the others.
+    pub fn phase_of(&self, n: LineNo) -> u32
+        ensures { result ≡ phase self.now n }
+    {
+        let before = n.0.saturating_sub(2) as usize;
+        self.phases[before.min(self.lines.len())]
     }
 
     /// The bytes that line `n` writes.

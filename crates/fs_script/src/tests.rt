@@ -28,6 +28,9 @@ fn five_lines_come_back(rt: HostRuntime) -> Result<(), Fail> {
         for n in [0, 1, 6] {
             assert!(rt; script.line(LineNo(n)).is_none());
         }
+        for n in [0, 2, 5, 6, u32::MAX] {
+            assert_eq!(rt; script.phase_of(LineNo(n)), 0);
+        }
         assert!(rt;
             matches!(
                 script.line(LineNo(2)),

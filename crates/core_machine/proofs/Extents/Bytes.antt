@@ -6,7 +6,8 @@ use Rattle.std.proofs.lemmas.Bool.Decides.{nat_tests}
 use Rattle.std.proofs.lemmas.List.Elements.{All-from_recursion}
 use borrow.Rule.Slice.PartMut.{put_mid, post_of}
 use Rattle.std.proofs.lemmas.List.{length-take-le, length-drop, get_or_append_left, get_or-append_right, get_or-take, get_or-drop, take_more, map_push}
-use Rattle.fs_types.specs.PlainFile.{longest_file, written}
+use Rattle.fs_types.specs.declared.limits.TheConstants.{LONGEST_FILE}
+use Rattle.fs_types.specs.PlainFile.{written}
 use Rattle.fs_types.specs.Overwrite.{put}
 use Rattle.fs_types.proofs.Overwrites.{length-put, get_or-put}
 use Rattle.fs_script.specs.Job.{Job}
@@ -49,7 +50,7 @@ overlaid bytes out part at len off from to k is_from is_to lt whole is_part with
       ]
     ]
 
-within_longest : (xs ys : List ℕ) (off : ℕ) → off + length ys ≤ longest_file → written 0 xs off ys ≡ put 0 xs off ys
+within_longest : (xs ys : List ℕ) (off : ℕ) → off + length ys ≤ LONGEST_FILE → written 0 xs off ys ≡ put 0 xs off ys
 within_longest xs ys off le = grind (arith, nat_tests)
 
 -- the bytes of extents and one more
@@ -57,7 +58,7 @@ bytes_of_extents-push : (s : Job) (xs : List Extent) (x : Extent) → IsExtent s
 bytes_of_extents-push s xs x is =
     ap (λ (ns : List ℕ). put_lines s (bytes_of s) ns []) (map_push (λ (y : Extent). y.line) xs x)
     ∙ put_lines-append s (bytes_of s) (lines_of_extents xs) (x.line ∷ []) []
-    ∙ (let le : offset s x.line + length (payload s x.line) ≤ longest_file = omega (arith, is.at, is.len, is.end) in within_longest (bytes_of_extents s xs) (payload s x.line) (offset s x.line) le)
+    ∙ (let le : offset s x.line + length (payload s x.line) ≤ LONGEST_FILE = omega (arith, is.at, is.len, is.end) in within_longest (bytes_of_extents s xs) (payload s x.line) (offset s x.line) le)
     ∙ ap (λ o. put 0 (bytes_of_extents s xs) o (payload s x.line)) (sym is.at)
 
 length-bytes_of_extents-push : (s : Job) (xs : List Extent) (x : Extent) → IsExtent s x → length (bytes_of_extents s (xs ++ x ∷ [])) ≡ max (length (bytes_of_extents s xs)) (x.at + x.len)

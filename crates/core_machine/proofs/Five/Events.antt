@@ -4,25 +4,38 @@ use Rattle.std.specs.Prelude.{codes}
 use Rattle.fs_types.specs.declared.answer.Answer.TheVariants as answers
 use Rattle.fs_types.specs.declared.answer.Body.TheVariants as bodies
 use Rattle.fs_script.proofs.FiveLines.{five_lines, path_a}
-use Rattle.core_machine.specs.Moment.{Moment, ready}
-use Rattle.core_machine.specs.Event.{step}
+use Rattle.core_machine.specs.Doing.{nothing}
+use Rattle.core_machine.specs.Moment.{Moment, fresh_client, ready}
+use Rattle.core_machine.specs.Step.{Turn, step}
 
 abbrev pub start : Moment
-start = record { job = five_lines; places = 0 ∷ []; answers = []; journals = (path_a, []) ∷ []; spent = false }
+start = record {
+  job = five_lines;
+  clients = fresh_client ∷ [];
+  answers = [];
+  journals = (path_a, []) ∷ [];
+  spent = false;
+}
 
 abbrev pub ended : Moment
 ended = record {
   job = five_lines;
-  places = 4 ∷ [];
-  answers = (2, answers.Done 1) ∷ (3, answers.Wrote 1) ∷ (4, answers.Done 2) ∷ (5, answers.Shown 2 3 (bodies.Hex (codes "ell"))) ∷ [];
+  clients = record { place = 4; doing = nothing } ∷ [];
+  answers =
+      (2, answers.Done 1) ∷ (3, answers.Wrote 1) ∷ (4, answers.Done 2)
+      ∷ (5, answers.Shown 2 3 (bodies.Hex (codes "ell"))) ∷ [];
   journals = (path_a, 2 ∷ 4 ∷ []) ∷ [];
   spent = false;
 }
 
+-- the one client's
+abbrev pub turn : Turn
+turn = record { client = 0 }
+
 ready_at_start : ready start ≡ 0 ∷ []
 ready_at_start = refl
 
-four_events : step (step (step (step start 0) 0) 0) 0 ≡ ended
+four_events : step (step (step (step start turn) turn) turn) turn ≡ ended
 four_events = refl
 
 none_ready_at_end : ready ended ≡ []

@@ -1,73 +1,120 @@
--- The end of a run: where no client is ready and memory didn't run out, each operation has an answer.
-use Rattle.std.proofs.Common.{◌≡◌, ℕ, zero, suc, ◌<◌, true, false, List, [], ◌∷◌, length, Option, Some, None, IsSome, is_some, leb, slice_get, slice_index, true≢false, refl, sym, ap, ◌∙◌, inl, inr, arith}
-use Rattle.std.specs.Prelude.{◌||◌}
-use Rattle.std.specs.List.{filter, range_with_len}
-use Rattle.std.proofs.lemmas.Bool.{cond-false, or_right, cases_lt, cases_order, lt-ltb, le-ltb, le-leb}
-use Rattle.std.proofs.lemmas.Option.{none-some, slice_get-get_or, slice_get_within}
-use Rattle.fs_types.specs.declared.answer.Answer.{Answer}
+-- The end of a run: where no client is ready and memory didn't run out, each operation has an
+-- answer, and the report is legal.
+use Rattle.std.proofs.Common.{◌≡◌, ℕ, zero, suc, ◌+◌, ◌≤◌, ◌<◌, true, false, List, [], length, map, Some, None, IsSome, is_some, slice_get, slice_index, Contains, ltb-false, le-ltb, le-leb, true≢false, refl, sym, ap, ◌∙◌, subst, inl, inr, arith}
+use Rattle.std.proofs.lemmas.Bool.{or_left, or_right, cases_Bool, cases_lt, false_from_ne_true}
+use Rattle.std.proofs.lemmas.List.Elements.{All-map, recursion_from_All}
+use Rattle.std.proofs.lemmas.Option.{slice_get-get_or, slice_get_within}
+use Rattle.std.proofs.lemmas.Simd.{map-map}
+use Rattle.fs_types.specs.declared.file_state.FileState.{FileState}
 use Rattle.fs_script.specs.declared.line.OpLine.{OpLine}
-use Rattle.fs_script.specs.Job.{Job, op_at, is_of_rank, phase, program}
-use Rattle.fs_script.specs.Grammar.{IsJob}
+use Rattle.fs_script.specs.Job.{Job, op_at, op_lines, is_of_rank, program}
 use Rattle.fs_script.specs.Pending.{Answering}
+use Rattle.fs_script.specs.Report.{file_state_of, IsLegal}
+use Rattle.fs_script.proofs.AnsweredLines.{rises_past, none_from-is_some, lines-passing}
+use Rattle.fs_script.proofs.Finished.{IsLegal-finished}
 use Rattle.fs_script.proofs.Fronts.{phase-rises}
-use Rattle.fs_script.proofs.Jobs.{IsOpLine-from_job}
-use Rattle.fs_script.proofs.Programs.{passing-rise, passing-place, program-place, program-op}
-use Rattle.core_machine.specs.Moment.{Moment, answering, has_begun, may_come, next_line, ready}
-use Rattle.core_machine.specs.LegalSoFar.{IsAnsweredUpTo}
-use Rattle.core_machine.proofs.Legal.Phases.{has_begun-from}
+use Rattle.fs_script.proofs.JournalGrows.{some_of}
+use Rattle.fs_script.proofs.Jobs.{op_at-within}
+use Rattle.fs_script.proofs.Programs.{passing-rise, program-place, program-op}
+use Rattle.core_machine.specs.Moment.{Moment, printed, client_of, file_now, has_begun, may_come, next_line, ready}
+use Rattle.core_machine.specs.MomentReport.{report_of}
+use Rattle.core_machine.specs.LegalSoFar.{IsAnsweredUpTo, IsLegalMoment}
+use Rattle.core_machine.proofs.Legal.Phases.{Contains-passing, lets_begin, has_begun-from}
 
 -- the place of a client whose lines before the one at i have answers, but not that one
-place-is : (s : Job) (A : Answering) (r place i n : ℕ) → IsAnsweredUpTo s A r place → slice_get (program s r) i ≡ Some n → A n ≡ None
+place-is : (s : Job) (A : Answering) (r place i n : ℕ) → IsAnsweredUpTo s A r place
+    → slice_get (program s r) i ≡ Some n → is_some (A n) ≡ false
     → ((k : ℕ) (o : OpLine) → k < n → op_at s k ≡ Some o → IsSome (A k)) → place ≡ i
-place-is s A r place i n upto at fresh earlier = elim (cases_order place i) [
-  | inl same ↦ same
-  | inr other ↦ elim other [
-    | inl less ↦
-        let k = slice_index (program s r) place in
-        let there = slice_get-get_or (program s r) place 0 (let within = slice_get_within (program s r) i n at in omega arith) in
-        let op = program-op s r place k there in
-        let before = passing-rise (λ j. is_of_rank r (op_at s j)) 2 (length s.lines) place i k n less there at in
-        absurd (true≢false (sym (earlier k op.0 before op.1) ∙ upto place k there ∙ le-ltb place place (omega arith)))
-    | inr more ↦ absurd (true≢false (sym (lt-ltb i place more) ∙ sym (upto i n at) ∙ ap is_some fresh))
+place-is s A r place i n upto at fresh earlier =
+    let from = ltb-false i place (sym (upto i n at) ∙ fresh) in
+    let within = slice_get_within (program s r) i n at in
+    let rises = passing-rise (λ j. is_of_rank r (op_at s j)) 2 (length s.lines) place i in
+    elim (cases_lt place i) [
+      | inl less ↦
+          let k = slice_index (program s r) place in
+          let there = slice_get-get_or (program s r) place 0 (omega arith) in
+          let op = program-op s r place k there in
+          let given = earlier k op.0 (rises k n less there at) op.1 in
+          absurd (true≢false (sym given ∙ upto place k there ∙ le-ltb place place (omega arith)))
+      | inr other ↦ omega arith
+    ]
+
+no_operation : (s : Job) (n : ℕ) → 2 + length s.lines ≤ n → is_some (op_at s n) ≡ false
+no_operation s n past = false_from_ne_true (is_some (op_at s n)) (λ is.
+    let op = some_of (op_at s n) is in
+    let within = (op_at-within s n op.0 op.1).1 in
+    omega arith)
+
+module _ {told : List ℕ} {m : Moment} (so_far : IsLegalMoment told m)
+    (none : ready m ≡ []) (going : m.spent ≡ false) where
+  -- a client whose next line's phase has begun would be ready
+  none_comes : (r n : ℕ) → r < m.job.shape.clients → next_line m r ≡ Some n
+      → has_begun m n ≡ true → ⊥
+  none_comes r n within next begun =
+      let comes = λ (i : ℕ). may_come m (next_line m i) in
+      let passes = ap (may_come m) next ∙ begun in
+      let has = Contains-passing comes 0 m.job.shape.clients r passes (omega arith) (omega arith) in
+      let found : Contains [] r = subst (λ xs. Contains xs r) (rw going at none) has in
+      omega (arith, found.1)
+
+  -- an operation has an answer where each before it has one, since its client isn't ready
+  answered-next : (n : ℕ) (o : OpLine) → op_at m.job n ≡ Some o
+      → ((k : ℕ) (l : OpLine) → k < n → op_at m.job k ≡ Some l → IsSome (printed m k))
+      → IsSome (printed m n)
+  answered-next n o is earlier = elim (cases_Bool (is_some (printed m n))) [
+    | inl given ↦ given
+    | inr fresh ↦
+        let r = o.rank in
+        let within = so_far.job n o is in
+        let at = program-place m.job n o is in
+        let upto = so_far.places r within in
+        let place = (client_of m r).place in
+        let here = place-is m.job (printed m) r place at.0 n upto at.1 fresh earlier in
+        let next = ap (slice_get (program m.job r)) here ∙ at.1 in
+        absurd (none_comes r n within next (has_begun-from m n begun))
   ]
-]
+    where
+      begun : (k : ℕ) (l : OpLine) → op_at m.job k ≡ Some l → lets_begin m n k ≡ true
+      begun k l op = elim (cases_lt k n) [
+        | inl before ↦ or_left _ _ (earlier k l before op)
+        | inr after ↦ or_right _ _ (le-leb _ _ (phase-rises m.job n k after))
+      ]
 
-no_place : (xs : List ℕ) (k r : ℕ) → xs ≡ [] → slice_get xs k ≡ Some r → ⊥
-no_place [] k r e at = none-some r at
-no_place (x ∷ xs) k r e at = cc
+  -- so each below a line has one
+  answered-below : (below n : ℕ) (o : OpLine) → n < below → op_at m.job n ≡ Some o
+      → IsSome (printed m n)
+  answered-below zero n o lt is = absurd (omega arith)
+  answered-below (suc below) n o lt is =
+      answered-next n o is (λ k l before op. answered-below below k l (omega arith) op)
 
--- where no client is ready and memory didn't run out, a client whose next line's phase has begun can't be
-none_comes : (m : Moment) (r n : ℕ) → ready m ≡ [] → m.spent ≡ false → r < m.job.shape.clients → next_line m r ≡ Some n → has_begun m n ≡ true → ⊥
-none_comes m r n none going within next begun =
-    let ks = filter (λ i. may_come m (next_line m i)) (range_with_len 0 m.job.shape.clients) in
-    let at = passing-place (λ i. may_come m (next_line m i)) 0 m.job.shape.clients r (ap (may_come m) next ∙ begun) (omega arith) (omega arith) in
-    no_place ks at.0 r (sym (cond-false m.spent [] ks going) ∙ none) at.1
+  unanswered : (n : ℕ) → is_some (op_at m.job n) ≡ false → printed m n ≡ None
+  unanswered n not_one = none_from-is_some (printed m n) (false_from_ne_true (is_some (printed m n))
+      (λ given. true≢false (sym (so_far.operations n given) ∙ not_one)))
 
--- then an operation has an answer where each before it has one: its client would be ready
-answered-next : (m : Moment) (n : ℕ) (o : OpLine) → IsJob m.job → ((r : ℕ) → r < m.job.shape.clients → IsAnsweredUpTo m.job (answering m) r (slice_index m.places r))
-    → ready m ≡ [] → m.spent ≡ false → op_at m.job n ≡ Some o → ((k : ℕ) (l : OpLine) → k < n → op_at m.job k ≡ Some l → IsSome (answering m k)) → IsSome (answering m n)
-answered-next m n o job upto none going is earlier = by (answering m n) refl where
-  begun : (k : ℕ) (l : OpLine) → op_at m.job k ≡ Some l → (is_some (answering m k) || leb (phase m.job n) (phase m.job k)) ≡ true
-  begun k l op = elim (cases_lt k n) [
-    | inl before ↦ ap (λ b. b || leb (phase m.job n) (phase m.job k)) (earlier k l before op)
-    | inr after ↦ or_right (is_some (answering m k)) (leb (phase m.job n) (phase m.job k)) (le-leb (phase m.job n) (phase m.job k) (phase-rises m.job n k after))
+  -- each operation has an answer, and nothing else
+  answers-at_end : (n : ℕ) → is_some (printed m n) ≡ is_some (op_at m.job n)
+  answers-at_end n = elim (cases_Bool (is_some (op_at m.job n))) [
+    | inl is ↦
+        let op = some_of (op_at m.job n) is in
+        answered-below (suc n) n op.0 (omega arith) op.1 ∙ sym is
+    | inr not_one ↦ ap is_some (unanswered n not_one) ∙ sym not_one
   ]
 
-  by : (x : Option Answer) → answering m n ≡ x → IsSome (answering m n)
-  by (Some a) e = ap is_some e
-  by None e =
-      let known = (IsOpLine-from_job m.job n o job is).rank in
-      let at = program-place m.job n o is in
-      let place = place-is m.job (answering m) o.rank (slice_index m.places o.rank) at.0 n (upto o.rank known) at.1 e earlier in
-      absurd (none_comes m o.rank n none going known (ap (slice_get (program m.job o.rank)) place ∙ at.1) (has_begun-from m n begun))
+  lines-at_end : map (λ a. a.0) m.answers ≡ op_lines m.job
+  lines-at_end =
+      let from_one = rises_past m.answers 0 so_far.rising (unanswered 0 refl) in
+      let from_two = rises_past m.answers 1 from_one (unanswered 1 refl) in
+      lines-passing (λ n. is_some (op_at m.job n)) (length m.job.lines) 2 m.answers from_two
+      (λ n _. answers-at_end n) (no_operation m.job)
 
--- so each operation has one
-answered-below : (m : Moment) (below n : ℕ) (o : OpLine) → IsJob m.job → ((r : ℕ) → r < m.job.shape.clients → IsAnsweredUpTo m.job (answering m) r (slice_index m.places r))
-    → ready m ≡ [] → m.spent ≡ false → n < below → op_at m.job n ≡ Some o → IsSome (answering m n)
-answered-below m zero n o job upto none going lt is = absurd (omega arith)
-answered-below m (suc below) n o job upto none going lt is =
-    answered-next m n o job upto none going is (λ k l before op. answered-below m below k l job upto none going (omega arith) op)
-
-pub answered-at_end : (m : Moment) (n : ℕ) (o : OpLine) → IsJob m.job → ((r : ℕ) → r < m.job.shape.clients → IsAnsweredUpTo m.job (answering m) r (slice_index m.places r))
-    → ready m ≡ [] → m.spent ≡ false → op_at m.job n ≡ Some o → IsSome (answering m n)
-answered-at_end m n o job upto none going is = answered-below m (suc n) n o job upto none going (omega arith) is
+  pub report-legal : IsLegal m.job (report_of m) told
+  report-legal =
+      let state_at : List ℕ → FileState = λ p. file_state_of (file_now m p) in
+      let file_at : List ℕ × List ℕ → List ℕ × FileState = λ j. (j.0, state_at j.0) in
+      let IsState = λ (f : List ℕ × FileState). f.1 ≡ state_at f.0 in
+      let states = All-map IsState file_at m.journals (λ k d within. refl) in
+      IsLegal-finished told m.job (report_of m) (record {
+        answers = lines-at_end;
+        journals = so_far.paths;
+        files = map-map (λ f. f.0) file_at m.journals;
+      }) (recursion_from_All IsState _ states) so_far.legal

@@ -1,156 +1,206 @@
--- One event keeps a moment legal: each invariant after a line of a client was answered.
-use Rattle.std.proofs.Common.{◌≡◌, ℕ, suc, ◌+◌, ◌≤◌, ◌<◌, Bool, true, false, cond, List, length, map, Some, None, IsSome, is_some, slice_index, Contains, refl, sym, ap, ◌∙◌, subst, inl, inr, arith}
+-- One event keeps a moment legal: each invariant after it, by whether it brings an answer.
+use Rattle.std.proofs.Common.{◌≡◌, ◌≢◌, ℕ, ◌+◌, ◌<◌, Bool, true, false, cond, ltb, lt-ltb, List, length, map, Option, Some, None, IsSome, is_some, slice_get, Contains, refl, sym, ap, ◌∙◌, subst, subst₂, inl, inr, arith}
 use Rattle.std.proofs.lemmas.Bool.{cases_eq}
-use Rattle.std.proofs.lemmas.List.{get_or-set_same, get_or-set_other}
-use Rattle.std.proofs.Math.ListN.{length-set}
+use Rattle.std.proofs.lemmas.Bool.Decides.{nat_tests}
+use Rattle.std.proofs.lemmas.List.{get_or-set_same, get_or-set_other, length-set}
+use Rattle.std.proofs.lemmas.Option.{same_Some}
 use Rattle.fs_types.specs.declared.answer.Answer.{Answer}
+use Rattle.fs_types.specs.AnswerList.{answer_at, put_answer}
 use Rattle.fs_types.proofs.AnswerOrder.{IsRisingFrom-put_answer}
-use Rattle.fs_script.specs.declared.line.OpLine.{OpLine}
-use Rattle.fs_script.specs.Job.{Job, op_at, phase}
+use Rattle.fs_script.specs.Job.{op_at, phase, is_of_rank, program}
 use Rattle.fs_script.specs.Pending.{Answering, pending}
-use Rattle.fs_script.specs.Effect.{is_enabled, state}
-use Rattle.fs_script.specs.Fits.{Fits}
 use Rattle.fs_script.specs.Journal.{commit_of, commit_by}
 use Rattle.fs_script.specs.Report.{journal_of, ArePaths}
 use Rattle.fs_script.specs.Growth.{AddsAnswer}
-use Rattle.fs_script.specs.SoFar.{IsLegalSoFar, IsNextAnswer, Pushes}
+use Rattle.fs_script.specs.SoFar.{IsLegalSoFar, IsNextAnswer}
 use Rattle.fs_script.proofs.Agreement.{pending-agree, AddsAnswer-put}
-use Rattle.fs_script.proofs.JournalGrows.{AgreeBefore-next, AllByRecursion-from_get, answered-in_journal}
+use Rattle.fs_script.proofs.JournalGrows.{AgreeBefore-next}
+use Rattle.fs_script.proofs.Programs.{passing-places, program-op}
 use Rattle.fs_script.proofs.SoFar.{IsLegalSoFar-kept, IsLegalSoFar-commit}
-use Rattle.core_machine.specs.Moment.{Moment, answering, journal, with_entry, ready}
-use Rattle.core_machine.specs.Event.{Event, event_at, after_event, step}
+use Rattle.core_machine.specs.Doing.{Doing}
+use Rattle.core_machine.specs.Moment.{Client, Moment, fresh_client, printed, answering, client_of, journal, with_entry, ready}
+use Rattle.core_machine.specs.Event.{Event}
+use Rattle.core_machine.specs.Step.{Turn, event_at, after_turn, after_event, step}
 use Rattle.core_machine.specs.LegalSoFar.{IsAnsweredUpTo, IsLegalMoment}
-use Rattle.core_machine.proofs.Legal.Events.{after_commit, IsNext, IsLegalEvent, event_of-legal}
-use Rattle.core_machine.proofs.Legal.Journals.{paths-with_entry, journal_of-with_entry, journal_of-with_entry_other}
-use Rattle.core_machine.proofs.Paths.{other_bytes}
-use Rattle.core_machine.proofs.Legal.Phases.{begun-answered, phase-answered}
-use Rattle.core_machine.proofs.Legal.Turns.{Turn, Turn-from_ready, step-is, ComesNext-turn, IsAnsweredUpTo-own, IsAnsweredUpTo-other}
+use Rattle.core_machine.proofs.Legal.Event.{now, IsLegalAnswer, IsLegalOutcome}
+use Rattle.core_machine.proofs.Legal.Events.{event_of-legal}
+use Rattle.core_machine.proofs.Legal.Journals.{paths-with_entry, Pushes-with_entry}
+use Rattle.core_machine.proofs.Legal.Phases.{begun-answered}
+use Rattle.core_machine.proofs.Legal.Turns.{IsTurn, IsTurn-from_ready, step-is, answered_up_to, comes_next, no_later_phase, coming}
 
--- ---- the journals
+-- ---- the clients after any event
 
--- the paths of the journals stay
-paths-kept : (b : Bool) (p : List ℕ) (n : ℕ) (js : List (List ℕ × List ℕ)) → map (λ j. j.0) (cond b (with_entry p n js) js) ≡ map (λ j. j.0) js
-paths-kept true p n js = paths-with_entry p n js
-paths-kept false p n js = refl
+module _ {told : List ℕ} {m : Moment} {r : ℕ} (t : IsTurn told m r) (e : Event) where
+  abbrev after : Moment
+  after = after_event m r t.number t.line e
 
--- the line comes to the end of its own path's journal
-Pushes-with_entry : (p : List ℕ) (n : ℕ) (js : List (List ℕ × List ℕ)) → Contains (map (λ j. j.0) js) p → Pushes (journal_of js) p n (journal_of (with_entry p n js))
-Pushes-with_entry p n js has = record { here = journal_of-with_entry p n js has; others = λ q other. journal_of-with_entry_other p q n js (other_bytes p q other) }
+  abbrev client_after : Client
+  client_after = after_turn (client_of m r) e
 
--- with the line's answer, and the line in its path's journal if it is committed, the job is legal so far
-grown : (b : Bool) (told : List ℕ) (s : Job) (A B : Answering) (js : List (List ℕ × List ℕ)) (n : ℕ) (o : OpLine) (a : Answer) → IsNextAnswer s A n o a B → IsLegalSoFar told s A (journal_of js)
-    → Contains (map (λ j. j.0) js) o.path → commit_by o.op (pending s B o.rank o.path n) (B n) ≡ cond b (Some (suc (length (journal_of js o.path)))) None
-    → (b ≡ true → is_enabled o.op (state s A (journal_of js o.path) (length (journal_of js o.path))) ≡ true) → Fits told s A (after_commit (journal_of js o.path) n b) n o a
-    → IsLegalSoFar told s B (journal_of (cond b (with_entry o.path n js) js))
-grown true told s A B js n o a here so_far has commits enabled fits =
-    IsLegalSoFar-commit told s A B (journal_of js) (journal_of (with_entry o.path n js)) n o a here so_far (Pushes-with_entry o.path n js has) commits (enabled refl) fits
-grown false told s A B js n o a here so_far has none enabled fits = IsLegalSoFar-kept told s A B (journal_of js) n o a here so_far none fits
+  clients-after : length after.clients ≡ m.job.shape.clients
+  clients-after = length-set m.clients r client_after ∙ t.so_far.clients
 
--- ---- a moment and its next line
+  -- the lines up to each client's place have answers, where it is so for this client and the others
+  places-after : (B : Answering) → IsAnsweredUpTo m.job B r client_after.place
+      → ((i : ℕ) → i ≢ r → i < m.job.shape.clients → IsAnsweredUpTo m.job B i (client_of m i).place)
+      → (i : ℕ) → i < m.job.shape.clients → IsAnsweredUpTo m.job B i (client_of after i).place
+  places-after B own others i within =
+      let size = t.so_far.clients in
+      elim (cases_eq i r) [
+        | inl is ↦
+            let same = get_or-set_same m.clients r client_after fresh_client (omega arith) in
+            subst₂ (λ j c. IsAnsweredUpTo m.job B j c.place) (sym is)
+            (sym same ∙ ap (client_of after) (sym is)) own
+        | inr other ↦
+            let same = get_or-set_other m.clients r i client_after fresh_client other in
+            subst (λ c. IsAnsweredUpTo m.job B i c.place) (sym same) (others i other within)
+      ]
 
--- what is known as client r's line n, the operation o, has the event e
-record HasEvent (told : List ℕ) (m : Moment) (r n : ℕ) (o : OpLine) (e : Event) : Type 0 where
-  so_far : IsLegalMoment told m
-  turn : Turn m r n o
-  line : IsNext told m.job (answering m) (journal m o.path) n o
-  event : IsLegalEvent told m.job (answering m) (journal m o.path) n o o.op e
-  adds : AddsAnswer (answering m) n e.answer (answering (after_event m r n o e))
+-- ---- an event that brings no answer
 
--- the path of the line has a journal
-has_journal : (told : List ℕ) (m : Moment) (r n : ℕ) (o : OpLine) (e : Event) → HasEvent told m r n o e → Contains (map (λ j. j.0) m.journals) o.path
-has_journal told m r n o e k = k.so_far.paths.each o.path (record { line = n; op = o; is = k.turn.is; on = refl })
+module _ {told : List ℕ} {m : Moment} {r : ℕ} (t : IsTurn told m r) (doing : Doing) where
+  open t use {so_far}
 
-places-after : (told : List ℕ) (m : Moment) (r n : ℕ) (o : OpLine) (e : Event) → HasEvent told m r n o e → (i : ℕ) → i < m.job.shape.clients
-    → IsAnsweredUpTo m.job (answering (after_event m r n o e)) i (slice_index (after_event m r n o e).places i)
-places-after told m r n o e k i within =
-    let place = slice_index m.places r in
-    let size = k.so_far.clients in
-    let bound = k.turn.within in
-    elim (cases_eq i r) [
-      | inl is ↦
-          let own = IsAnsweredUpTo-own m.job (answering m) (answering (after_event m r n o e)) n e.answer r place k.adds k.turn.next (k.so_far.places r bound) in
-          subst (λ j. IsAnsweredUpTo m.job (answering (after_event m r n o e)) j (slice_index (after_event m r n o e).places j)) (sym is)
-          (subst (λ j. IsAnsweredUpTo m.job (answering (after_event m r n o e)) r j) (sym (get_or-set_same m.places r (place + 1) 0 (omega arith))) own)
-      | inr other ↦
-          let kept = IsAnsweredUpTo-other m.job (answering m) (answering (after_event m r n o e)) n e.answer o i (slice_index m.places i) k.adds k.turn.is (λ same. other (sym same ∙ k.turn.rank)) (k.so_far.places i within) in
-          subst (λ j. IsAnsweredUpTo m.job (answering (after_event m r n o e)) i j) (sym (get_or-set_other m.places r i (place + 1) 0 other)) kept
-    ]
+  abbrev goes_on : Event
+  goes_on = record { answer = None; commits = false; doing = doing }
 
-operations-after : (told : List ℕ) (m : Moment) (r n : ℕ) (o : OpLine) (e : Event) → HasEvent told m r n o e → (i : ℕ) → IsSome (answering (after_event m r n o e) i) → IsSome (op_at m.job i)
-operations-after told m r n o e k i given = elim (cases_eq i n) [
-  | inl is ↦ ap (λ j. is_some (op_at m.job j)) is ∙ ap is_some k.turn.is
-  | inr other ↦ k.so_far.operations i (ap is_some (sym (k.adds.others i other)) ∙ given)
-]
+  unanswered-legal : IsLegalMoment told (after t goes_on)
+  unanswered-legal = record {
+    job = so_far.job;
+    clients = clients-after t goes_on;
+    places = places-after t goes_on (printed m) (answered_up_to t) (λ i other. so_far.places i);
+    operations = so_far.operations;
+    phases = so_far.phases;
+    rising = so_far.rising;
+    paths = so_far.paths;
+    legal = so_far.legal;
+  }
 
--- what had an answer has one
-still-answered : (A B : Answering) (n l : ℕ) (a : Answer) → AddsAnswer A n a B → IsSome (A l) → IsSome (B l)
-still-answered A B n l a adds given = elim (cases_eq l n) [
-  | inl is ↦ ap (λ i. is_some (B i)) is ∙ ap is_some adds.added
-  | inr other ↦ ap is_some (adds.others l other) ∙ given
-]
+-- ---- an event that brings an answer
 
-phases-after : (told : List ℕ) (m : Moment) (r n : ℕ) (o : OpLine) (e : Event) → HasEvent told m r n o e → (i j : ℕ) → IsSome (answering (after_event m r n o e) i) → IsSome (op_at m.job j)
-    → phase m.job j < phase m.job i → IsSome (answering (after_event m r n o e) j)
-phases-after told m r n o e k i j given is before = still-answered (answering m) (answering (after_event m r n o e)) n j e.answer k.adds (elim (cases_eq i n) [
-  | inl here ↦ begun-answered m n j k.turn.begun is (subst (λ l. phase m.job j < phase m.job l) here before)
-  | inr other ↦ k.so_far.phases i j (ap is_some (sym (k.adds.others i other)) ∙ given) is before
-])
+ltb-next : (k place : ℕ) → k ≢ place → ltb k place ≡ ltb k (place + 1)
+ltb-next k place other = grind (arith, nat_tests)
 
--- what the line commits is what its event says
-commit-after : (told : List ℕ) (m : Moment) (r n : ℕ) (o : OpLine) (e : Event) → HasEvent told m r n o e
-    → commit_by o.op (pending m.job (answering (after_event m r n o e)) o.rank o.path n) (answering (after_event m r n o e) n) ≡ cond e.commits (Some (suc (length (journal m o.path)))) None
-commit-after told m r n o e k =
-    let s = m.job in
-    let A = answering m in
-    let B = answering (after_event m r n o e) in
-    let before = pending-agree s o.rank o.path A B n (AgreeBefore-next s o.rank o.path A B n n e.answer k.adds (omega arith)) in
-    ap (commit_by o.op (pending s B o.rank o.path n)) k.adds.added ∙ ap (λ q. commit_of o.op q e.answer) (sym before) ∙ k.event.commit
+module _ {told : List ℕ} {m : Moment} {r : ℕ} (t : IsTurn told m r) (a : Answer) where
+  open t use {number as n, line as o, so_far, is}
 
-legal-after : (told : List ℕ) (m : Moment) (r n : ℕ) (o : OpLine) (e : Event) → HasEvent told m r n o e → IsLegalSoFar told m.job (answering (after_event m r n o e)) (journal (after_event m r n o e))
-legal-after told m r n o e k =
-    let here : IsNextAnswer m.job (answering m) n o e.answer (answering (after_event m r n o e)) = record {
-      op = k.turn.is;
-      adds = k.adds;
-      next = k.line.next;
-      phases = λ i given. phase-answered m i n k.so_far.phases k.line.next.fresh (ap is_some k.turn.is) given;
-    } in
-    grown e.commits told m.job (answering m) (answering (after_event m r n o e)) m.journals n o e.answer here k.so_far.legal (has_journal told m r n o e k) (commit-after told m r n o e k) k.event.enabled
-    (record { opened = k.event.opened; version = k.event.version; answer = k.event.answer })
+  abbrev ends : Bool → Doing → Event
+  ends committed doing = record { answer = Some a; commits = committed; doing = doing }
 
--- ---- every invariant
+  -- the answers with this one
+  abbrev B : Answering
+  B = answer_at (put_answer n a m.answers)
 
-after_event-legal : (told : List ℕ) (m : Moment) (r n : ℕ) (o : OpLine) (e : Event) → HasEvent told m r n o e → IsLegalMoment told (after_event m r n o e)
-after_event-legal told m r n o e k = record {
-  job = k.so_far.job;
-  clients = length-set m.places r (slice_index m.places r + 1) ∙ k.so_far.clients;
-  places = places-after told m r n o e k;
-  operations = operations-after told m r n o e k;
-  phases = phases-after told m r n o e k;
-  rising = IsRisingFrom-put_answer m.answers 0 n e.answer (omega arith) k.so_far.rising;
-  paths = subst (λ ps. ArePaths m.job ps) (sym (paths-kept e.commits o.path n m.journals)) k.so_far.paths;
-  legal = legal-after told m r n o e k;
-}
+  adds : AddsAnswer (printed m) n a B
+  adds = AddsAnswer-put m.answers n a
 
-turn-legal : (told : List ℕ) (m : Moment) (r n : ℕ) (o : OpLine) → IsLegalMoment told m → Turn m r n o → IsLegalMoment told (after_event m r n o (event_at m n o))
-turn-legal told m r n o so_far turn =
-    let next = ComesNext-turn m r n o turn (so_far.places r turn.within) so_far.operations in
-    let line : IsNext told m.job (answering m) (journal m o.path) n o = record {
-      is = turn.is;
-      next = next;
-      later = AllByRecursion-from_get (λ k. phase m.job k ≤ phase m.job n) (journal m o.path) (λ i k at. phase-answered m k n so_far.phases next.fresh (ap is_some turn.is) (answered-in_journal m.job (answering m) o.path (journal m o.path) i k (so_far.legal.legal o.path) at));
-      legal = so_far.legal.legal o.path;
-      fit = so_far.legal.fit o.path;
-    } in
-    after_event-legal told m r n o (event_at m n o) (record {
-      so_far = so_far;
-      turn = turn;
-      line = line;
-      event = event_of-legal told m.job (answering m) (journal m o.path) n o o.op line;
-      adds = AddsAnswer-put m.answers n (event_at m n o).answer;
-    })
+  -- the client's place is one more
+  own_place : IsAnsweredUpTo m.job B r ((client_of m r).place + 1)
+  own_place k j at =
+      let place = (client_of m r).place in
+      let places = passing-places (λ i. is_of_rank r (op_at m.job i)) 2 (length m.job.lines) in
+      elim (cases_eq j n) [
+        | inl here ↦
+            let same = places k place n (at ∙ ap Some here) t.next in
+            ap (λ i. is_some (B i)) here ∙ ap is_some adds.added
+            ∙ sym (lt-ltb k (place + 1) (omega arith))
+        | inr other ↦
+            let another : k ≢ place = λ e.
+            other (same_Some j n (sym at ∙ ap (slice_get (program m.job r)) e ∙ t.next)) in
+            ap is_some (adds.others j other) ∙ answered_up_to t k j at ∙ ltb-next k place another
+      ]
+
+  -- another client's stays
+  other_place : (i : ℕ) → i ≢ r → i < m.job.shape.clients
+      → IsAnsweredUpTo m.job B i (client_of m i).place
+  other_place i other within k j at =
+      let op = program-op m.job i k j at in
+      let same : j ≡ n → i ≡ r = λ e. sym op.2
+      ∙ ap (λ l. l.rank) (same_Some op.0 o (sym op.1 ∙ ap (op_at m.job) e ∙ is)) ∙ t.rank in
+      ap is_some (adds.others j (λ e. other (same e))) ∙ so_far.places i within k j at
+
+  operations-after : (i : ℕ) → IsSome (B i) → IsSome (op_at m.job i)
+  operations-after i given = elim (cases_eq i n) [
+    | inl here ↦ ap (λ j. is_some (op_at m.job j)) here ∙ ap is_some is
+    | inr other ↦ so_far.operations i (ap is_some (sym (adds.others i other)) ∙ given)
+  ]
+
+  -- what had an answer has one
+  still_answered : (i : ℕ) → IsSome (printed m i) → IsSome (B i)
+  still_answered i given = elim (cases_eq i n) [
+    | inl here ↦ ap (λ j. is_some (B j)) here ∙ ap is_some adds.added
+    | inr other ↦ ap is_some (adds.others i other) ∙ given
+  ]
+
+  phases-after : (i j : ℕ) → IsSome (B i) → IsSome (op_at m.job j)
+      → phase m.job j < phase m.job i → IsSome (B j)
+  phases-after i j given there before = still_answered j (elim (cases_eq i n) [
+    | inl here ↦
+        begun-answered m n j t.begun there (subst (λ l. phase m.job j < phase m.job l) here before)
+    | inr other ↦ so_far.phases i j (ap is_some (sym (adds.others i other)) ∙ given) there before
+  ])
+
+  -- the journals, by whether the line is committed
+  abbrev journals_after : Bool → List (List ℕ × List ℕ)
+  journals_after committed = cond committed (with_entry o.path n m.journals) m.journals
+
+  paths-after : (committed : Bool) → ArePaths m.job (map (λ j. j.0) (journals_after committed))
+  paths-after true =
+      subst (ArePaths m.job) (sym (paths-with_entry o.path n m.journals)) so_far.paths
+  paths-after false = so_far.paths
+
+  next_answer : IsNextAnswer m.job (answering m) n o a B
+  next_answer = record { op = is; adds = adds; next = comes_next t; phases = no_later_phase t }
+
+  -- what the line commits is as its event found it
+  commit-after : commit_by o.op (pending m.job B o.rank o.path n) (B n)
+      ≡ commit_of o.op (now (coming t)).pending a
+  commit-after =
+      let agree = AgreeBefore-next m.job o.rank o.path (answering m) B n n a adds (omega arith) in
+      let same = pending-agree m.job o.rank o.path (answering m) B n agree in
+      ap (commit_by o.op (pending m.job B o.rank o.path n)) adds.added
+      ∙ ap (λ q. commit_of o.op q a) (sym same)
+
+  legal-after : (committed : Bool) → IsLegalAnswer (coming t) o.op a committed
+      → IsLegalSoFar told m.job B (journal_of (journals_after committed))
+  legal-after true k =
+      let has = so_far.paths.each o.path (record { line = n; op = o; is = is; on = refl }) in
+      IsLegalSoFar-commit told m.job (answering m) B (journal m) (journal_of (journals_after true))
+      n o a next_answer so_far.legal (Pushes-with_entry o.path n m.journals has)
+      (commit-after ∙ k.commit) (k.enabled refl)
+      (record { opened = k.opened; version = k.version; answer = k.answer })
+  legal-after false k =
+      IsLegalSoFar-kept told m.job (answering m) B (journal m)
+      n o a next_answer so_far.legal (commit-after ∙ k.commit)
+      (record { opened = k.opened; version = k.version; answer = k.answer })
+
+  answered-legal : (committed : Bool) (doing : Doing) → IsLegalAnswer (coming t) o.op a committed
+      → IsLegalMoment told (after t (ends committed doing))
+  answered-legal committed doing k = record {
+    job = so_far.job;
+    clients = clients-after t (ends committed doing);
+    places = places-after t (ends committed doing) B own_place other_place;
+    operations = operations-after;
+    phases = phases-after;
+    rising = IsRisingFrom-put_answer m.answers 0 n a (omega arith) so_far.rising;
+    paths = paths-after committed;
+    legal = legal-after committed k;
+  }
+
+-- ---- a step
+
+after_event-legal : {told : List ℕ} {m : Moment} {r : ℕ} (t : IsTurn told m r)
+    (answer : Option Answer) (committed : Bool) (doing : Doing)
+    → IsLegalOutcome (coming t) t.line.op answer committed
+    → IsLegalMoment told (after t (record { answer = answer; commits = committed; doing = doing }))
+after_event-legal t None committed doing none = rw none (unanswered-legal t doing)
+after_event-legal t (Some a) committed doing legal = answered-legal t a committed doing legal
 
 -- the step of a client that is ready keeps a moment legal
-pub step-legal : (told : List ℕ) (m : Moment) (r : ℕ) → IsLegalMoment told m → Contains (ready m) r → IsLegalMoment told (step m r)
-step-legal told m r so_far has =
-    let taken = Turn-from_ready m r so_far.job has in
-    subst (λ x. IsLegalMoment told x) (sym (step-is m r taken.0 taken.1 taken.2)) (turn-legal told m r taken.0 taken.1 so_far taken.2)
+pub step-legal : (told : List ℕ) (m : Moment) (turn : Turn) → IsLegalMoment told m
+    → Contains (ready m) turn.client → IsLegalMoment told (step m turn)
+step-legal told m turn so_far has =
+    let t = IsTurn-from_ready told m turn.client so_far has in
+    let e = event_at m t.number t.line in
+    subst (IsLegalMoment told) (sym (step-is t))
+    (after_event-legal t e.answer e.commits e.doing (event_of-legal (coming t) t.line.op))

@@ -1,25 +1,34 @@
 //! A create: an empty file where there is none.
 
-ghost use Rattle.std.specs.Prelude.{◌≡◌, ◌+◌, ◌^◌, ◌<◌, length, vec_len, IfOk, OnOk};
-ghost use Rattle.core_machine.specs.PathView.{view, refused, create_over, Outcome};
-ghost use Rattle.core_machine.specs.PathState.{IsSound};
+ghost use Rattle.std.specs.Prelude.{◌≡◌, ◌^◌, ◌<◌, ◌+◌, length, IfOk, OnOk};
 ghost use Rattle.fs_script.specs.Job.{Job};
+ghost use Rattle.core_machine.specs.Follows.{Follows};
+ghost use Rattle.core_machine.specs.Kept.{AreSound};
 
-use crate::path_state::PathState;
-use fs_types::{Answer, LineNo, Version, Want};
+use crate::path_state::{ClientPath, OwnedPath};
+use fs_script::Op;
+use fs_types::{Answer, LineNo, Want};
 use std::alloc::Global;
 
-pub fn create(alloc: Global, n: LineNo, state: &mut PathState) -> Result<Answer, Want>
-    ensures outcome { IfOk result (λ a. record { answer = a; kept = view state.new } ≡ create_over (view state.old).written (view state.old) n) }
-    ensures sound { OnOk result ((s : Job) → IsSound s state.old → IsSound s state.new) }
+/// Answers a create, line `n`.
+pub fn create(
+    alloc: Global,
+    n: LineNo,
+    path: &mut OwnedPath,
+    own: &mut ClientPath,
+) -> Result<Answer, Want>
+    ensures follows { IfOk result (λ a. (s : Job) → Follows s n Op.Create path.old own.old path.new own.new a) }
+    ensures sound { OnOk result ((s : Job) → AreSound s path.old own.old → AreSound s path.new own.new) }
 {
-    if state.file.is_some() {
-        let v = Version(state.journal.len() as u64);
+    if path.file.is_some() {
+        let v = path.version();
+        own.note(v, true);
         return Ok(Answer::Exists { v });
     }
-    state.journal.push(n)?;
-    state.file = Some(Vec::new(alloc));
-    state.client.is_open = true;
-    let v = Version(state.journal.len() as u64);
+    path.journal.push(n)?;
+    path.file = Some(Vec::new(alloc));
+    own.is_open = true;
+    let v = path.version();
+    own.note(v, true);
     Ok(Answer::Done { v })
 }

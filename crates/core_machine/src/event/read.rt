@@ -1,17 +1,17 @@
 //! A read: the bytes of the file at its owner's present version.
 
-ghost use Rattle.std.specs.Prelude.{◌≡◌, ◌+◌, ◌^◌, ◌<◌, ◌≤◌, length, IfOk, OnOk};
+ghost use Rattle.std.specs.Prelude.{◌≡◌, ℕ, ◌+◌, ◌^◌, ◌<◌, ◌≤◌, length, IfOk, OnOk};
 ghost use Rattle.fs_types.specs.Overwrite.{shown};
 ghost use Rattle.fs_script.specs.Fits.{body_of};
 ghost use Rattle.md5.specs.Md5.{md5};
 ghost use Rattle.core_machine.specs.Extents.{AreExtents, bytes_of_extents};
-ghost use Rattle.core_machine.specs.PathView.{view, where_open, read_over, Outcome};
-ghost use Rattle.core_machine.specs.PathState.{IsSound};
+ghost use Rattle.core_machine.specs.Follows.{Follows};
+ghost use Rattle.core_machine.specs.Kept.{AreSound};
 
 use crate::extent::{Extent, covered, read_extents};
-use crate::path_state::PathState;
-use fs_script::Script;
-use fs_types::{Answer, Body, Digest16, ShortBytes, Version, Want};
+use crate::path_state::{ClientPath, OwnedPath};
+use fs_script::{Op, Script};
+use fs_types::{Answer, Body, Digest16, HEX_LIMIT, ShortBytes, Want};
 use md5::{Digest, Md5};
 use std::alloc::Global;
 
@@ -25,7 +25,7 @@ pub fn digest(bytes: &[u8]) -> Digest16
 fn body(bytes: &[u8]) -> Body
     ensures { result ≡ body_of bytes.now }
 {
-    if bytes.len() <= 32 {
+    if bytes.len() <= HEX_LIMIT {
         Body::Hex(ShortBytes::new(bytes))
     } else {
         Body::Md5(digest(bytes))
@@ -48,24 +48,29 @@ pub fn shown_bytes(
     read_extents(alloc, s, extents, off, len.min(size - off))
 }
 
+/// Answers a read of at most `len` bytes from `off` on.
 pub fn read(
     alloc: Global,
     s: &Script,
     off: u64,
     len: u64,
-    state: &PathState,
+    path: &OwnedPath,
+    own: &mut ClientPath,
 ) -> Result<Answer, Want>
-    requires { IsSound s.now state.now }
-    ensures { IfOk result (λ a. record { answer = a; kept = view state.now } ≡ where_open (view state.now) (read_over s.now (view state.now).written (view state.now) off len)) }
+    requires { AreSound s.now path.now own.old }
+    ensures follows { IfOk result (λ a. (n : ℕ) → Follows s.now n (Op.Read off len) path.now own.old path.now own.new a) }
+    ensures sound { OnOk result (AreSound s.now path.now own.new) }
 {
-    if !state.client.is_open {
+    if !own.is_open {
         return Ok(Answer::BadF);
     }
-    let v = Version(state.journal.len() as u64);
-    let Some(extents) = &state.file else {
+    let v = path.version();
+    let Some(extents) = &path.file else {
+        own.note(v, false);
         return Ok(Answer::NoEnt { v });
     };
     let bytes = shown_bytes(alloc, s, extents, off, len)?;
+    own.note(v, true);
     Ok(Answer::Shown {
         v,
         n: bytes.len() as u64,

@@ -2,28 +2,35 @@
 
 ghost use Rattle.std.specs.Prelude.{◌≡◌, ◌+◌, ◌^◌, ◌<◌, length, IfOk, OnOk};
 ghost use Rattle.fs_script.specs.Job.{Job};
-ghost use Rattle.core_machine.specs.PathView.{view, where_open, sync_over, Outcome};
-ghost use Rattle.core_machine.specs.PathState.{IsSound};
+ghost use Rattle.core_machine.specs.Follows.{Follows};
+ghost use Rattle.core_machine.specs.Kept.{AreSound};
 
-use crate::path_state::PathState;
-use fs_types::{Answer, LineNo, Version, Want};
+use crate::path_state::{ClientPath, OwnedPath};
+use fs_script::Op;
+use fs_types::{Answer, LineNo, Want};
 
-pub fn sync(n: LineNo, state: &mut PathState) -> Result<Answer, Want>
-    ensures outcome { IfOk result (λ a. record { answer = a; kept = view state.new } ≡ where_open (view state.old) (sync_over (view state.old).written (view state.old) n)) }
-    ensures sound { OnOk result ((s : Job) → IsSound s state.old → IsSound s state.new) }
+/// Answers a sync, line `n`.
+pub fn sync(n: LineNo, path: &mut OwnedPath, own: &mut ClientPath) -> Result<Answer, Want>
+    ensures follows { IfOk result (λ a. (s : Job) → Follows s n Op.Sync path.old own.old path.new own.new a) }
+    ensures sound { OnOk result ((s : Job) → AreSound s path.old own.old → AreSound s path.new own.new) }
 {
-    if !state.client.is_open {
+    if !own.is_open {
         return Ok(Answer::BadF);
     }
-    let Some(extents) = &mut state.file else {
-        state.client.pending.clear();
-        let v = Version(state.journal.len() as u64);
+    let Some(extents) = &mut path.file else {
+        own.pending.clear();
+        let v = path.version();
+        own.note(v, false);
         return Ok(Answer::NoEnt { v });
     };
-    if !state.client.pending.is_empty() {
-        state.journal.push(n)?;
-        extents.append(&mut state.client.pending)?;
+    if own.pending.is_empty() {
+        let v = path.version();
+        own.note(v, true);
+        return Ok(Answer::Done { v });
     }
-    let v = Version(state.journal.len() as u64);
+    path.journal.push(n)?;
+    extents.append(&mut own.pending)?;
+    let v = path.version();
+    own.note(v, true);
     Ok(Answer::Done { v })
 }

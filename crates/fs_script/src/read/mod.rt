@@ -62,7 +62,7 @@ fn script(alloc: Global, text: &[u8]) -> Result<Script, ScriptFault>
     match header(alloc, first) {
         Ok(shape) => {
             let lines = lines_after_header(alloc, &shape, others)?;
-            Ok(Script::new(shape, lines))
+            Ok(Script::new(alloc, shape, lines)?)
         }
         Err(PartFault::Form) => Err(ScriptFault::BadHeader),
         Err(PartFault::Want) => Err(ScriptFault::Want),

@@ -1,8 +1,8 @@
 use Rattle.std.proofs.Common.{◌≡◌, ◌≤◌, length, take}
-use Rattle.fs_types.specs.PlainFile.{longest_file}
+use Rattle.fs_types.specs.declared.limits.TheConstants.{LONGEST_FILE}
 use Rattle.core_machine.specs.Extents.{bytes_of_extents}
 use Rattle.core_machine.proofs.extent.covered.Given as goal
 
 -- the end so far is that of the file which the extents so far make
 abbrev pub invariant-loop-x : goal.invariant-loop-x
-invariant-loop-x l = record { length : l.end ≡ length (bytes_of_extents l.s (take l.x-index l.extents)); most : l.end ≤ longest_file }
+invariant-loop-x l = record { length : l.end ≡ length (bytes_of_extents l.s (take l.x-index l.extents)); most : l.end ≤ LONGEST_FILE }

@@ -1,0 +1,131 @@
+-- The line that comes next, and when its event keeps its path legal: what the events of all
+-- operations share.
+use Rattle.std.proofs.Common.{◌≡◌, ℕ, suc, ◌+◌, ◌≤◌, Bool, true, false, not, cond, List, [], ◌∷◌, ◌++◌, length, Option, Some, None, IfSome, IsTrue, true≢false, add-one, refl, sym, ap, arith}
+use Rattle.std.proofs.lemmas.Bool.{cond_both, OnTrue_from}
+use Rattle.fs_types.specs.declared.answer.Answer.{Answer}
+use Rattle.fs_types.specs.declared.answer.Answer.TheVariants as answers
+use Rattle.fs_script.specs.declared.line.OpLine.{OpLine}
+use Rattle.fs_script.specs.declared.line.Op.{Op}
+use Rattle.fs_script.specs.Job.{Job, op_at}
+use Rattle.fs_script.specs.Operations.{needs_open, commits}
+use Rattle.fs_script.specs.AnswerKinds.{version_of, done_at}
+use Rattle.fs_script.specs.Pending.{Answering}
+use Rattle.fs_script.specs.Effect.{is_enabled}
+use Rattle.fs_script.specs.Fits.{IsInReach, AreTold, AgreesWithOpen, LineView, line_view, IsInTable}
+use Rattle.fs_script.specs.Journal.{commit_of, IsLegalJournal}
+use Rattle.fs_script.specs.Growth.{AllFit, ComesNext, IsOfNoEarlierPhase}
+use Rattle.fs_script.proofs.JournalGrows.{slice_get-push_last}
+use Rattle.fs_script.proofs.InReach.{front-le-length_fit, IsInReach-now, IsInReach-made}
+use Rattle.core_machine.specs.Event.{Event, PathNow, if_open}
+use Rattle.core_machine.specs.Step.{path_now}
+
+-- a line that comes next for its client, where its path is legal so far by the answers that count
+pub record NextLine : Type 0 where
+  pub told : List ℕ
+  pub job : Job
+  pub counted : Answering
+  -- of its path
+  pub journal : List ℕ
+  pub number : ℕ
+  pub line : OpLine
+  pub is : op_at job number ≡ Some line
+  pub next : ComesNext job counted number
+  pub later : IsOfNoEarlierPhase job number journal
+  pub legal : IsLegalJournal job counted line.path journal
+  pub fit : AllFit told job counted line.path journal
+
+-- what it sees of its path
+abbrev pub now : NextLine → PathNow
+now k = path_now k.job k.counted k.journal k.number k.line
+
+-- the journal of its path after it, by whether it is committed
+abbrev pub journal_then : NextLine → Bool → List ℕ
+journal_then k committed = cond committed (k.journal ++ k.number ∷ []) k.journal
+
+-- what its answer is checked against then
+abbrev pub view_then : NextLine → Bool → LineView
+view_then k committed = line_view k.job k.counted (journal_then k committed) k.number k.line
+
+-- it may print version v then
+abbrev pub MayPrint : NextLine → Bool → ℕ → Type 0
+MayPrint k committed v = IsInReach k.job k.counted (journal_then k committed) k.number k.line v
+
+-- were its operation op, this answer would keep its path legal
+pub record IsLegalAnswer (k : NextLine) (op : Op) (a : Answer) (committed : Bool) : Type 0 where
+  pub opened : AgreesWithOpen op (now k).is_open a
+  pub version : IfSome (version_of a) (MayPrint k committed)
+  pub answer : IsInTable (AreTold k.job k.told) (view_then k committed) op a
+  pub commit : commit_of op (now k).pending a ≡ cond committed (Some (suc (length k.journal))) None
+  pub enabled : committed ≡ true → is_enabled op (now k).file ≡ true
+
+-- an event that doesn't end the line commits nothing
+abbrev pub IsLegalOutcome : NextLine → Op → Option Answer → Bool → Type 0
+IsLegalOutcome k op None committed = committed ≡ false
+IsLegalOutcome k op (Some a) committed = IsLegalAnswer k op a committed
+
+-- were its operation op, this event would keep its path legal
+abbrev pub IsLegalEvent : NextLine → Op → Event → Type 0
+IsLegalEvent k op e = IsLegalOutcome k op e.answer e.commits
+
+-- ---- the versions that it may print
+
+module _ (k : NextLine) where
+  front-in_journal : (now k).front ≤ length k.journal
+  front-in_journal =
+      front-le-length_fit k.told k.job k.counted k.journal k.line.rank k.line.path k.number k.fit
+
+  MayPrint-from : (v : ℕ) → (now k).front ≤ v → v ≤ length k.journal → MayPrint k false v
+  MayPrint-from v =
+      IsInReach-now k.job k.counted k.journal k.number k.line v k.legal k.next k.is k.later
+
+  pub MayPrint-front : MayPrint k false (now k).front
+  MayPrint-front = MayPrint-from (now k).front (omega arith) front-in_journal
+
+  pub MayPrint-last : MayPrint k false (now k).version
+  MayPrint-last = MayPrint-from (now k).version front-in_journal (omega arith)
+
+  MayPrint-new : MayPrint k true (suc (length k.journal))
+  MayPrint-new =
+      IsInReach-made k.job k.counted k.journal k.number k.line
+      k.legal k.next k.is k.later front-in_journal
+
+-- ---- answers, by whether they commit
+
+-- no answer but Done does
+pub not_done : (op : Op) (q : List ℕ) (a : Answer) → done_at a ≡ None → commit_of op q a ≡ None
+not_done op q a none = cond_both (commits op q) _ _ (λ v. v ≡ None) (λ _. none) (λ _. refl)
+
+module _ {k : NextLine} {op : Op} where
+  -- it commits nothing
+  pub kept : (a : Answer)
+      → AgreesWithOpen op (now k).is_open a → IfSome (version_of a) (MayPrint k false)
+      → IsInTable (AreTold k.job k.told) (view_then k false) op a
+      → commit_of op (now k).pending a ≡ None → IsLegalAnswer k op a false
+  kept a opened version answer none = record {
+    opened = opened;
+    version = version;
+    answer = answer;
+    commit = none;
+    enabled = λ h. absurd (true≢false (sym h));
+  }
+
+  -- it commits the line, as the version after the last
+  pub committed : AgreesWithOpen op (now k).is_open (answers.Done ((now k).version + 1))
+      → commits op (now k).pending ≡ true → is_enabled op (now k).file ≡ true
+      → IsLegalAnswer k op (answers.Done ((now k).version + 1)) true
+  committed opened commits_it enabled = rw add-one (record {
+    opened = opened;
+    version = MayPrint-new k;
+    answer = rw commits_it (slice_get-push_last k.journal k.number);
+    commit = rw commits_it;
+    enabled = λ _. enabled;
+  })
+
+-- an operation that needs an open path; where it is open, no other answer is BadF
+pub if_open-legal : (k : NextLine) (op : Op) (e : Event) → IsTrue (needs_open op)
+    → (false ≡ not (now k).is_open → IsLegalEvent k op e) → IsLegalEvent k op (if_open (now k) e)
+if_open-legal k op e needs opened =
+    cond_both (now k).is_open _ _ (IsLegalEvent k op)
+    (λ there. opened (sym (ap not there)))
+    (λ closed. kept answers.BadF (OnTrue_from (needs_open op) _ (λ _. sym (ap not closed))) tt needs
+    (not_done op (now k).pending answers.BadF refl))

@@ -1,0 +1,14 @@
+-- The code is the machine: what is kept stands for the moment, before the first event and after each.
+pub mod Syncs
+pub mod Answers
+pub mod Owners
+pub mod Clients
+pub mod Journals
+pub mod Now
+pub mod Steps
+pub mod Moments
+pub mod Told
+pub mod Ready
+pub mod First
+pub mod Reads
+pub mod Goes

@@ -1,0 +1,97 @@
+-- What is kept before the first event, and that the moment it stands for is the first.
+use Rattle.std.proofs.Common.{◌≡◌, ℕ, zero, suc, ◌+◌, false, List, [], ◌∷◌, length, map, Option, Some, None, IsSome, is_some, slice_index, All, true≢false, refl, sym, ap, subst, ◌∙◌, arith}
+use Rattle.std.specs.Prelude.{zip, replicate}
+use Rattle.std.specs.List.{slice_get, AllByRecursion}
+use Rattle.std.proofs.lemmas.Bool.{le-ltb}
+use Rattle.std.proofs.lemmas.List.{length-map, length-replicate, get_or-replicate}
+use Rattle.std.proofs.lemmas.List.Elements.{recursion_from_All}
+use Rattle.std.proofs.lemmas.Option.{slice_get_within, get_or_from_slice_get}
+use Rattle.fs_types.specs.AnswerList.{Given, answer_at}
+use Rattle.fs_script.specs.Job.{Job, phase}
+use Rattle.fs_script.specs.Pending.{Answering, pending}
+use Rattle.fs_script.specs.Front.{is_open, seen}
+use Rattle.fs_script.specs.Grammar.{IsJob}
+use Rattle.fs_script.specs.Report.{ArePaths}
+use Rattle.core_machine.specs.declared.path_state.OwnedPath.{OwnedPath}
+use Rattle.core_machine.specs.declared.path_state.ClientPath.{ClientPath}
+use Rattle.core_machine.specs.declared.path_state.PathState.{PathState}
+use Rattle.core_machine.specs.Kept.{IsFreshOwner, IsFreshClient, IsFreshPath}
+use Rattle.core_machine.specs.Moment.{IsFirst}
+use Rattle.core_machine.specs.Turns.{Places}
+use Rattle.core_machine.specs.MomentKept.{client_at, journals_of, moment_of}
+use Rattle.core_machine.specs.Standing.{Holds, Stands, StandsForOwner, StandsForClient, end_of}
+use Rattle.core_machine.proofs.Refines.Answers.{pending-until, seen-until, is_open-until}
+use Rattle.core_machine.proofs.Refines.Journals.{journal_kept}
+
+abbrev none : Answering
+none = answer_at []
+
+owner-fresh : (s : Job) (now : ℕ) (x : OwnedPath) → IsFreshOwner x → StandsForOwner s none now x
+owner-fresh s now x fresh = record {
+  answered = rw fresh.journal tt;
+  written = rw fresh.file tt;
+  file = rw (fresh.journal, fresh.file) refl;
+  told = rw (fresh.journal, fresh.board) refl;
+  known = rw (fresh.journal, fresh.board) refl;
+}
+
+client-fresh : (s : Job) (r : ℕ) (p : List ℕ) (x : OwnedPath) (k : ClientPath) → IsFreshOwner x → IsFreshClient k → StandsForClient s none r p x k
+client-fresh s r p x k owned fresh = record {
+  opened = fresh.is_open ∙ sym (is_open-until s r p none 0 (end_of s) (omega arith) (λ _ _ _. refl));
+  pending = rw fresh.pending refl ∙ sym (pending-until s r p none 0 (end_of s) (omega arith) (λ _ _ _. refl));
+  extents = rw fresh.pending tt;
+  seen = ap (λ n. n.version) fresh.noted ∙ sym (seen-until s r p none 0 (end_of s) (omega arith) (λ _ _ _. refl));
+  within = (let start = ap (λ n. n.version) fresh.noted in omega arith);
+  known = rw (owned.journal, fresh.noted) refl;
+}
+
+path-fresh : (s : Job) (now : ℕ) (p : List ℕ) (x : PathState) → IsFreshPath s.shape.clients x → Stands s none now p x
+path-fresh s now p x fresh = record {
+  owned = owner-fresh s now x.owned fresh.owned;
+  sized = fresh.sized;
+  clients = λ r k at. client-fresh s r p x.owned k fresh.owned (subst IsFreshClient (get_or_from_slice_get x.clients.items r k k at) (fresh.clients r k (slice_get_within x.clients.items r k at)));
+}
+
+-- nothing is kept yet, and that stands for no answers
+pub Holds-first : (s : Job) (paths : List (List ℕ)) (states : List PathState) (answers : Given) (turns : Places) → IsJob s → ArePaths s paths → length states ≡ length paths
+    → All (IsFreshPath s.shape.clients) states → answers.list ≡ [] → answers.lines ≡ length s.lines + 1 → turns.job ≡ s → turns.places ≡ replicate s.shape.clients 0 → Holds s paths states answers turns
+Holds-first s paths states answers turns job named sized fresh empty room same places = record {
+  job = job;
+  same = same;
+  named = named;
+  kept = sized;
+  clients = ap length places ∙ length-replicate s.shape.clients 0;
+  room = room;
+  upto = λ r within k n at.
+      let start = ap (λ ps. slice_index ps r) places ∙ get_or-replicate s.shape.clients r 0 0 within in
+      ap is_some (ap (λ xs. answer_at xs n) empty) ∙ sym (le-ltb k (slice_index turns.places r) (omega arith));
+  past = λ m given. absurd (true≢false (sym given ∙ ap is_some (ap (λ xs. answer_at xs m) empty)));
+  each = λ i p x at there. subst (λ xs. Stands s (answer_at xs) turns.phase p x) (sym empty)
+      (path-fresh s turns.phase p x (subst (IsFreshPath s.shape.clients) (get_or_from_slice_get states i x x there) (fresh i x (slice_get_within states i x there))));
+}
+
+pub zip-keys : (ps js : List (List ℕ)) → length js ≡ length ps → map (λ j. j.0) (zip ps js) ≡ ps
+zip-keys [] js same = refl
+zip-keys (p ∷ ps) [] same = absurd (omega arith)
+zip-keys (p ∷ ps) (j ∷ js) same = ap (λ (qs : List (List ℕ)). p ∷ qs) (zip-keys ps js (omega arith))
+
+fresh-journals : (clients : ℕ) (ps : List (List ℕ)) (xs : List PathState) → AllByRecursion (IsFreshPath clients) xs → AllByRecursion (λ j. j.1 ≡ []) (zip ps (map journal_kept xs))
+fresh-journals clients [] xs fresh = tt
+fresh-journals clients (p ∷ ps) [] fresh = tt
+fresh-journals clients (p ∷ ps) (x ∷ xs) fresh = (fresh.0.owned.journal, fresh-journals clients ps xs fresh.1)
+
+map-replicate : (n : ℕ) → map client_at (replicate n 0) ≡ replicate n (client_at 0)
+map-replicate zero = refl
+map-replicate (suc n) = ap (λ cs. client_at 0 ∷ cs) (map-replicate n)
+
+-- the moment that it stands for is the first
+pub IsFirst-first : (s : Job) (paths : List (List ℕ)) (states : List PathState) (answers : Given) (turns : Places) → ArePaths s paths → length states ≡ length paths
+    → All (IsFreshPath s.shape.clients) states → answers.list ≡ [] → turns.places ≡ replicate s.shape.clients 0 → IsFirst s (moment_of s paths states answers turns false)
+IsFirst-first s paths states answers turns named sized fresh empty places = record {
+  job = refl;
+  clients = ap (map client_at) places ∙ map-replicate s.shape.clients;
+  answers = empty;
+  paths = rw (zip-keys paths (map journal_kept states) (length-map states journal_kept ∙ sized)) named;
+  journals = fresh-journals s.shape.clients paths states (recursion_from_All (IsFreshPath s.shape.clients) states fresh);
+  spent = refl;
+}

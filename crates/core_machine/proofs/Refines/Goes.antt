@@ -1,0 +1,88 @@
+-- A client that goes: it is one of the job's, and its next line is of the run's phase. Its step brings the run nearer to its end.
+use Rattle.std.proofs.Common.{◌≡◌, ℕ, zero, suc, ◌+◌, ◌-◌, ◌≤◌, ◌<◌, Bool, true, false, List, [], ◌∷◌, length, Option, Some, Contains, slice_index, slice_get, sum_by, refl, sym, ap, ◌∙◌, subst, inl, inr, arith, eqb-true}
+use Rattle.std.specs.List.{filter, range_with_len}
+use Rattle.std.proofs.lemmas.Bool.{cases_eq}
+use Rattle.std.proofs.lemmas.List.{get_or-set_same, get_or-set_other}
+use Rattle.std.proofs.lemmas.List.Sums.{sum_by-cons}
+use Rattle.std.proofs.lemmas.Option.{slice_get-get_or, slice_get_within}
+use Rattle.fs_types.specs.AnswerList.{Given}
+use Rattle.fs_script.specs.Job.{Job, phase, program}
+use Rattle.fs_script.proofs.Programs.{passes}
+use Rattle.core_machine.specs.declared.path_state.PathState.{PathState}
+use Rattle.core_machine.specs.Turns.{Places, IsInPhase, going, next_in, is_of_phase}
+use Rattle.core_machine.specs.Moment.{events_left, ready}
+use Rattle.core_machine.specs.MomentKept.{moment_of, after_line}
+use Rattle.core_machine.specs.Standing.{Holds}
+use Rattle.core_machine.proofs.Refines.Moments.{client_of-places}
+use Rattle.core_machine.proofs.Refines.Ready.{passing-below, line-of_phase, ready-kept}
+
+-- client r, whose next line is n, goes in the run's phase
+pub record Goes (s : Job) (turns : Places) (r n : ℕ) : Type 0 where
+  pub within : r < s.shape.clients
+  pub next : slice_get (program s r) (slice_index turns.places r) ≡ Some n
+  pub now : phase s n ≡ turns.phase
+
+goes-in : (v : Places) (r n : ℕ) → Contains (going v) r → next_in v r ≡ Some n → Goes v.job v r n
+goes-in v r n has next =
+    let at : slice_get (going v) has.0 ≡ Some r = slice_get-get_or (going v) has.0 r has.1 ∙ ap Some has.2 in
+    let test = λ (i : ℕ). is_of_phase v.job v.phase (next_in v i) in
+    let pass = (passes test 0 v.job.shape.clients has.0 r at).0 in
+    let below = passing-below test 0 v.job.shape.clients has.0 r at in
+    record { within = omega arith; next = next; now = eqb-true (phase v.job n) v.phase (sym (ap (is_of_phase v.job v.phase) next) ∙ pass) }
+
+pub goes-kept : (s : Job) (paths : List (List ℕ)) (states : List PathState) (answers : Given) (turns : Places) (r n : ℕ) → Holds s paths states answers turns
+    → Contains (going turns) r → next_in turns r ≡ Some n → Goes s turns r n
+goes-kept s paths states answers turns r n held has next = subst (λ j. Goes j turns r n) held.same (goes-in turns r n has next)
+
+-- a client that is ready goes, and has a next line; memory didn't run out
+pub ready-going : (s : Job) (paths : List (List ℕ)) (states : List PathState) (answers : Given) (turns : Places) (spent : Bool) (r : ℕ) → (spent ≡ false → Holds s paths states answers turns) → IsInPhase turns
+    → Contains (ready (moment_of s paths states answers turns spent)) r → (spent ≡ false) × Contains (going turns) r
+ready-going s paths states answers turns true r holds phases has = absurd (let none : has.0 < 0 = has.1 in omega arith)
+ready-going s paths states answers turns false r holds phases has = (refl, subst (λ xs. Contains xs r) (ready-kept s paths states answers turns (holds refl) phases) has)
+
+pub goes-some : (s : Job) (paths : List (List ℕ)) (states : List PathState) (answers : Given) (turns : Places) (r : ℕ) → Holds s paths states answers turns → Contains (going turns) r → (n : ℕ) × Goes s turns r n
+goes-some s paths states answers turns r held has =
+    let at : slice_get (going turns) has.0 ≡ Some r = slice_get-get_or (going turns) has.0 r has.1 ∙ ap Some has.2 in
+    let test = λ (i : ℕ). is_of_phase turns.job turns.phase (next_in turns i) in
+    let line = line-of_phase turns.job turns.phase (next_in turns r) (passes test 0 turns.job.shape.clients has.0 r at).0 in
+    (line.0, goes-kept s paths states answers turns r line.0 held has line.1)
+
+-- ---- the events that are left
+
+sum-le : (f g : ℕ → ℕ) (xs : List ℕ) → ((q : ℕ) → g q ≤ f q) → sum_by g xs ≤ sum_by f xs
+sum-le f g [] less = omega arith
+sum-le f g (x ∷ xs) less = (let rest = sum-le f g xs less in let here = less x in omega (arith, sum_by-cons f x xs, sum_by-cons g x xs))
+
+sum-less : (f g : ℕ → ℕ) (a len r : ℕ) → a ≤ r → r < a + len → ((q : ℕ) → g q ≤ f q) → g r < f r → sum_by g (range_with_len a len) < sum_by f (range_with_len a len)
+sum-less f g a zero r from to less here = absurd (omega arith)
+sum-less f g a (suc len) r from to less here =
+    let xs = range_with_len (a + 1) len in
+    let first = less a in
+    elim (cases_eq a r) [
+      | inl is ↦ (let rest = sum-le f g xs less in let at = subst (λ q. g q < f q) (sym is) here in omega (arith, sum_by-cons f a xs, sum_by-cons g a xs))
+      | inr other ↦ (let rest = sum-less f g (a + 1) len r (omega arith) (omega arith) less here in omega (arith, sum_by-cons f a xs, sum_by-cons g a xs))
+    ]
+
+-- how many lines of a client's program have no answer yet
+abbrev left : Job → List ℕ → ℕ → ℕ
+left s places q = length (program s q) - slice_index places q
+
+events_left-is : (s : Job) (paths : List (List ℕ)) (states : List PathState) (answers : Given) (turns : Places) (spent : Bool)
+    → events_left (moment_of s paths states answers turns spent) ≡ sum_by (left s turns.places) (range_with_len 0 s.shape.clients)
+events_left-is s paths states answers turns spent i = sum_by (λ q. length (program s q) - (client_of-places turns.places q i).place) (range_with_len 0 s.shape.clients)
+
+pub nearer : (s : Job) (paths : List (List ℕ)) (states states' : List PathState) (answers answers' : Given) (turns : Places) (spent : Bool) (r n : ℕ) → Goes s turns r n → length turns.places ≡ s.shape.clients
+    → events_left (moment_of s paths states' answers' (after_line turns r) false) < events_left (moment_of s paths states answers turns spent)
+nearer s paths states states' answers answers' turns spent r n goes size =
+    let f = left s turns.places in
+    let g = left s (after_line turns r).places in
+    let place = slice_index turns.places r in
+    let within = goes.within in
+    let own : slice_index (after_line turns r).places r ≡ place + 1 = get_or-set_same turns.places r (place + 1) 0 (omega arith) in
+    let inside = slice_get_within (program s r) place n goes.next in
+    let fewer : (q : ℕ) → g q ≤ f q = λ q. elim (cases_eq q r) [
+      | inl is ↦ subst (λ j. g j ≤ f j) (sym is) (omega arith)
+      | inr other ↦ (let same = get_or-set_other turns.places r q (place + 1) 0 other in omega arith)
+    ] in
+    let less = sum-less f g 0 s.shape.clients r (omega arith) (omega arith) fewer (omega arith) in
+    omega (arith, less, events_left-is s paths states' answers' (after_line turns r) false, events_left-is s paths states answers turns spent)

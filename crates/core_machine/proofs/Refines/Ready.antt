@@ -1,0 +1,132 @@
+-- The clients that may go by what the core keeps are those that are ready at the moment that it stands for.
+use Rattle.std.proofs.Common.{◌≡◌, ℕ, zero, suc, ◌+◌, ◌≤◌, ◌<◌, Bool, true, false, cond, List, [], ◌∷◌, length, map, Option, Some, None, IsSome, is_some, slice_index, leb, nat_eq, Contains, true≢false, refl, sym, ap, ◌∙◌, subst, inl, inr, arith, eq-eqb}
+use Rattle.std.specs.Prelude.{◌||◌, filter, ◌==◌}
+use Rattle.std.specs.List.{slice_get, range_with_len}
+use Rattle.std.proofs.lemmas.Bool.{cases_Bool, cond_both, cases_lt, false_from_ne_true, le-ltb, ltb-false, le-leb, or_left, or_right, ne_eqb, eqb-true}
+use Rattle.std.proofs.lemmas.Option.{none-some, same_Some, slice_get-get_or, slice_get_within, slice_get_past}
+use Rattle.fs_types.specs.AnswerList.{Given, answer_at}
+use Rattle.fs_script.specs.declared.line.OpLine.{OpLine}
+use Rattle.fs_script.specs.Job.{Job, op_at, is_of_rank, phase, program}
+use Rattle.fs_script.specs.Pending.{Answering}
+use Rattle.fs_script.proofs.Fronts.{phase-rises}
+use Rattle.fs_script.proofs.Jobs.{IsOpLine-from_job}
+use Rattle.fs_script.proofs.Programs.{passes, passing-rise, program-place, program-op}
+use Rattle.core_machine.specs.declared.path_state.PathState.{PathState}
+use Rattle.core_machine.specs.Moment.{Moment, has_begun, may_come, next_line, ready}
+use Rattle.core_machine.specs.Turns.{Places, IsInPhase, going, next_in, is_of_phase}
+use Rattle.core_machine.specs.MomentKept.{moment_of}
+use Rattle.core_machine.specs.Standing.{Holds}
+use Rattle.core_machine.proofs.Legal.Phases.{has_begun-from, lets_begin, begun-answered}
+use Rattle.core_machine.proofs.Places.{StandsNext, unanswered}
+use Rattle.core_machine.proofs.Refines.Moments.{client_of-places}
+
+-- tests that agree at each number of a range keep the same numbers
+filter-range : (p q : ℕ → Bool) (a len : ℕ) → ((n : ℕ) → a ≤ n → n < a + len → p n ≡ q n) → filter p (range_with_len a len) ≡ filter q (range_with_len a len)
+filter-range p q a zero agree = refl
+filter-range p q a (suc len) agree =
+    let rest = filter-range p q (a + 1) len (λ n from to. agree n (omega arith) (omega arith)) in
+    ap (λ b. cond b (a ∷ filter p (range_with_len (a + 1) len)) (filter p (range_with_len (a + 1) len))) (agree a (omega arith) (omega arith))
+    ∙ ap (λ ns. cond (q a) (a ∷ ns) ns) rest
+
+-- a number of a range that passes a test is below its end
+first-below : (a : ℕ) (xs : List ℕ) (k n top : ℕ) → a < top → ((j : ℕ) → slice_get xs j ≡ Some n → n < top) → slice_get (a ∷ xs) k ≡ Some n → n < top
+first-below a xs zero n top lt later at = subst (λ m. m < top) (same_Some a n at) lt
+first-below a xs (suc k) n top lt later at = later k at
+
+pub passing-below : (P : ℕ → Bool) (a len k n : ℕ) → slice_get (filter P (range_with_len a len)) k ≡ Some n → n < a + len
+passing-below P a zero k n at = absurd (none-some n at)
+passing-below P a (suc len) k n at =
+    let rest = filter P (range_with_len (a + 1) len) in
+    let later : (j : ℕ) → slice_get rest j ≡ Some n → n < a + suc len = λ j h. let r = passing-below P (a + 1) len j n h in omega arith in
+    cond_both (P a) (a ∷ rest) rest (λ xs. slice_get xs k ≡ Some n → n < a + suc len) (λ _. first-below a rest k n (a + suc len) (omega arith) later) (λ _. later k) at
+
+-- a line of a phase is one
+pub line-of_phase : (s : Job) (now : ℕ) (x : Option ℕ) → is_of_phase s now x ≡ true → (k : ℕ) × (x ≡ Some k) × (phase s k ≡ now)
+line-of_phase s now None is = absurd (true≢false (sym is))
+line-of_phase s now (Some k) is = (k, refl, eqb-true (phase s k) now is)
+
+module _ {s : Job} {paths : List (List ℕ)} {states : List PathState} {answers : Given} {places : List ℕ} {now : ℕ}
+    (held : Holds s paths states answers (record { job = s; places = places; phase = now })) (phases : IsInPhase (record { job = s; places = places; phase = now })) where
+  abbrev turns : Places
+  turns = record { job = s; places = places; phase = now }
+
+  abbrev m : Moment
+  m = moment_of s paths states answers turns false
+
+  next-is : (r : ℕ) → next_line m r ≡ next_in turns r
+  next-is r = ap (λ c. slice_get (program s r) c.place) (client_of-places places r)
+
+  -- a client's next line has no answer
+  next-unanswered : (r n : ℕ) → r < s.shape.clients → next_in turns r ≡ Some n → answer_at answers.list n ≡ None
+  next-unanswered r n within next =
+      let there : StandsNext s (answer_at answers.list) r (slice_index places r) n = record { upto = held.upto r within; here = next } in
+      unanswered there
+
+  -- an operation without an answer is of no earlier phase than the run's
+  none_earlier : (k : ℕ) (o : OpLine) → op_at s k ≡ Some o → is_some (answer_at answers.list k) ≡ false → now ≤ phase s k
+  none_earlier k o is fresh =
+      let r = o.rank in
+      let within = (IsOpLine-from_job s k o held.job is).rank in
+      let at = program-place s k o is in
+      let past = ltb-false at.0 (slice_index places r) (sym (held.upto r within at.0 k at.1) ∙ fresh) in
+      let inside = slice_get_within (program s r) at.0 k at.1 in
+      let n = slice_index (program s r) (slice_index places r) in
+      let next = slice_get-get_or (program s r) (slice_index places r) 0 (omega arith) in
+      let first = phases.none_earlier r n next in
+      elim (cases_lt (slice_index places r) at.0) [
+        | inl less ↦
+            let before = passing-rise (λ j. is_of_rank r (op_at s j)) 2 (length s.lines) (slice_index places r) at.0 n k less next at.1 in
+            let rises = phase-rises s n k (omega arith) in omega arith
+        | inr same ↦
+            let here : slice_index places r ≡ at.0 = omega arith in
+            let equal = same_Some n k (sym next ∙ ap (slice_get (program s r)) here ∙ at.1) in
+            subst (λ j. now ≤ phase s j) equal first
+      ]
+
+  -- so a line of the run's phase has begun
+  begun : (n : ℕ) → phase s n ≡ now → has_begun m n ≡ true
+  begun n is = has_begun-from m n (λ k o op. elim (cases_Bool (is_some (answer_at answers.list k))) [
+    | inl given ↦ or_left _ _ given
+    | inr fresh ↦ let later = none_earlier k o op fresh in or_right _ _ (le-leb (phase s n) (phase s k) (omega arith))
+  ])
+
+  -- some client goes where one has a line left
+  someone : (r n : ℕ) → r < s.shape.clients → next_in turns r ≡ Some n → (q : ℕ) × (k : ℕ) × (q < s.shape.clients) × (next_in turns q ≡ Some k) × (phase s k ≡ now)
+  someone r n within next = by (going turns) refl where
+    by : (xs : List ℕ) → going turns ≡ xs → (q : ℕ) × (k : ℕ) × (q < s.shape.clients) × (next_in turns q ≡ Some k) × (phase s k ≡ now)
+    by [] e = absurd (none-some n (sym (phases.none_left e r within) ∙ next))
+    by (q ∷ qs) e =
+        let at : slice_get (going turns) 0 ≡ Some q = ap (λ xs. slice_get xs 0) e in
+        let pass = (passes (λ i. is_of_phase s now (next_in turns i)) 0 s.shape.clients 0 q at).0 in
+        let line = line-of_phase s now (next_in turns q) pass in
+        let below = passing-below (λ i. is_of_phase s now (next_in turns i)) 0 s.shape.clients 0 q at in
+        (q, line.0, omega arith, line.1, line.2)
+
+  -- and a line of a later phase hasn't
+  waits : (r n : ℕ) → r < s.shape.clients → next_in turns r ≡ Some n → now < phase s n → has_begun m n ≡ false
+  waits r n within next later = false_from_ne_true (has_begun m n) (λ has.
+      let other = someone r n within next in
+      let op = program-op s other.0 (slice_index places other.0) other.1 other.3 in
+      let given = begun-answered m n other.1 has (ap is_some op.1) (let there = other.4 in omega arith) in
+      true≢false (sym given ∙ ap is_some (next-unanswered other.0 other.1 other.2 other.3)))
+
+  comes-is : (r : ℕ) (x : Option ℕ) → r < s.shape.clients → next_in turns r ≡ x → may_come m x ≡ is_of_phase s now x
+  comes-is r None within next = refl
+  comes-is r (Some n) within next = elim (cases_lt now (phase s n)) [
+    | inl later ↦ waits r n within next later ∙ sym (ne_eqb (phase s n) now (λ e. omega arith))
+    | inr le ↦
+        let first = phases.none_earlier r n next in
+        let same : phase s n ≡ now = omega arith in
+        begun n same ∙ sym (eq-eqb (phase s n) now same)
+  ]
+
+  pub ready-is : ready m ≡ going turns
+  ready-is = filter-range (λ r. may_come m (next_line m r)) (λ r. is_of_phase s now (next_in turns r)) 0 s.shape.clients
+      (λ r from to. ap (may_come m) (next-is r) ∙ comes-is r (next_in turns r) (omega arith) refl)
+
+pub ready-kept : (s : Job) (paths : List (List ℕ)) (states : List PathState) (answers : Given) (turns : Places) → Holds s paths states answers turns → IsInPhase turns
+    → ready (moment_of s paths states answers turns false) ≡ going turns
+ready-kept s paths states answers turns held phases =
+    let e : record { job = s; places = turns.places; phase = turns.phase } ≡ turns = (λ i. record { job = (sym held.same) i; places = turns.places; phase = turns.phase }) in
+    let P : Places → Type 0 = λ v. Holds s paths states answers v → IsInPhase v → ready (moment_of s paths states answers v false) ≡ going v in
+    subst P e (λ h p. ready-is h p) held phases

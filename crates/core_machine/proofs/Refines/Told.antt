@@ -1,0 +1,97 @@
+-- The end of a phase: all clients are told of every path, and all that is kept goes on holding in the next phase.
+use Rattle.std.proofs.Common.{◌≡◌, ℕ, zero, suc, ◌≤◌, ◌<◌, Bool, true, false, cond, List, [], ◌∷◌, ◌++◌, length, map, take, drop, set, get_or, Option, Some, None, IsSome, is_some, Vec, nat_lt, count_by, slice_index, refl, sym, ap, ◌∙◌, subst, arith, add-one}
+use Rattle.std.specs.Prelude.{zip}
+use Rattle.std.specs.List.{slice_get, AllByRecursion}
+use Rattle.std.proofs.lemmas.Bool.{lt-ltb}
+use Rattle.std.proofs.lemmas.List.{length-map}
+use Rattle.std.proofs.lemmas.List.Sums.{sum_by-cons}
+use Rattle.std.proofs.lemmas.Option.{same_Some}
+use Rattle.fs_types.specs.AnswerList.{Given, answer_at}
+use Rattle.fs_script.specs.Job.{Job, phase}
+use Rattle.fs_script.specs.Pending.{Answering}
+use Rattle.core_machine.specs.declared.extent.Extent.{Extent}
+use Rattle.core_machine.specs.declared.path_state.OwnedPath.{OwnedPath}
+use Rattle.core_machine.specs.declared.path_state.PathState.{PathState}
+use Rattle.core_machine.specs.Event.{known_of}
+use Rattle.core_machine.specs.Kept.{file_of, known_from, board_now, told}
+use Rattle.core_machine.specs.Turns.{Places}
+use Rattle.core_machine.specs.LegalSoFar.{IsAnsweredUpTo}
+use Rattle.core_machine.specs.MomentKept.{client_at, moment_of}
+use Rattle.core_machine.proofs.Refines.Journals.{journal_kept}
+use Rattle.core_machine.specs.Standing.{Holds, Stands, StandsForOwner}
+
+-- lines of phases before a later one are all of the lines
+all-earlier : (s : Job) (now : ℕ) (J : List ℕ) → AllByRecursion (λ m. phase s m < now) J → length J ≡ count_by (λ m. nat_lt (phase s m) now) J
+all-earlier s now [] all = refl
+all-earlier s now (m ∷ J) all =
+    let rest = all-earlier s now J all.1 in
+    let first = ap (λ b. cond {A = ℕ} b 1 0) (lt-ltb (phase s m) now all.0) in
+    omega (arith, rest, first, sum_by-cons (λ k. cond (nat_lt (phase s k) now) 1 0) m J)
+
+known-board : {A : Type 0} (s : Job) (f : Option (Vec Extent A)) → record { exists = is_some f; frozen = false } ≡ known_of (file_of s f)
+known-board s None = refl
+known-board s (Some xs) = refl
+
+-- the owner's part, where every line that was answered is of an earlier phase than the next one
+StandsForOwner-told : (s : Job) (A : Answering) (now next : ℕ) (x : OwnedPath) → ((m : ℕ) → IsSome (A m) → phase s m < next) → StandsForOwner s A now x → StandsForOwner s A next (record x { board = board_now x })
+StandsForOwner-told s A now next x past stands = record {
+  answered = stands.answered;
+  written = stands.written;
+  file = stands.file;
+  told = all-earlier s next x.journal.items (earlier x.journal.items stands.answered);
+  known = known-board s x.file ∙ ap known_of stands.file;
+}
+  where
+    earlier : (J : List ℕ) → AllByRecursion (λ m. IsSome (A m)) J → AllByRecursion (λ m. phase s m < next) J
+    earlier [] all = tt
+    earlier (m ∷ J) all = (past m all.0, earlier J all.1)
+
+-- all that is kept, once all clients were told and the next phase has begun
+pub Holds-told : (s : Job) (paths : List (List ℕ)) (states : List PathState) (answers : Given) (turns then : Places) → then.job ≡ turns.job → then.places ≡ turns.places → turns.phase < then.phase
+    → Holds s paths states answers turns → Holds s paths (map told states) answers then
+Holds-told s paths states answers turns then job places later held = record {
+  job = held.job;
+  same = job ∙ held.same;
+  named = held.named;
+  kept = length-map states told ∙ held.kept;
+  clients = ap length places ∙ held.clients;
+  room = held.room;
+  upto = λ r within. subst (λ ps. IsAnsweredUpTo s (answer_at answers.list) r (slice_index ps r)) (sym places) (held.upto r within);
+  past = λ m given. let was = held.past m given in omega arith;
+  each = λ i p x at there.
+      let y = told-at states i x there in
+      let stood = held.each i p y.0 at y.1 in
+      subst (Stands s (answer_at answers.list) then.phase p) y.2 (record {
+        owned = StandsForOwner-told s (answer_at answers.list) turns.phase then.phase y.0.owned (λ m given. let was = held.past m given in omega arith) stood.owned;
+        sized = stood.sized;
+        clients = λ r k found. let c = stood.clients r k found in
+            record { opened = c.opened; pending = c.pending; extents = c.extents; seen = c.seen; within = c.within; known = c.known };
+      });
+}
+  where
+    told-at : (xs : List PathState) (i : ℕ) (x : PathState) → slice_get (map told xs) i ≡ Some x → (y : PathState) × (slice_get xs i ≡ Some y) × (told y ≡ x)
+    told-at [] i x is = absurd cc
+    told-at (y ∷ ys) zero x is = (y, refl, same_Some (told y) x is)
+    told-at (y ∷ ys) (suc i) x is = told-at ys i x is
+
+-- one path more is told of
+pub tell-next : (xs : List PathState) (i : ℕ) (x : PathState) → i < length xs → x ≡ get_or (map told (take i xs) ++ drop i xs) i x
+    → set (map told (take i xs) ++ drop i xs) i (told x) ≡ map told (take (suc i) xs) ++ drop (suc i) xs
+tell-next [] i x lt is = absurd (omega arith)
+tell-next (y ∷ ys) zero x lt is = ap (λ z. told z ∷ ys) is
+tell-next (y ∷ ys) (suc i) x lt is = ap (λ zs. told y ∷ zs) (tell-next ys i x (omega arith) is)
+
+journals-told : (xs : List PathState) → map journal_kept (map told xs) ≡ map journal_kept xs
+journals-told [] = refl
+journals-told (x ∷ xs) = ap (λ js. journal_kept x ∷ js) (journals-told xs)
+
+-- the moment stays
+pub moment-told : (s : Job) (paths : List (List ℕ)) (states : List PathState) (answers : Given) (turns then : Places) (spent : Bool) → then.places ≡ turns.places
+    → moment_of s paths (map told states) answers then spent ≡ moment_of s paths states answers turns spent
+moment-told s paths states answers turns then spent places i = record {
+  job = s;
+  clients = map client_at (places i);
+  answers = answers.list;
+  journals = zip paths (journals-told states i);
+  spent = spent;
+}

@@ -1,7 +1,0 @@
-use Rattle.std.proofs.Common.{◌≡◌, length, All}
-use Rattle.core_machine.specs.PathState.{IsFresh}
-use Rattle.core_machine.proofs.machine.fresh_states.Given as goal
-
--- the states so far are fresh
-abbrev pub invariant-loop : goal.invariant-loop
-invariant-loop l = record { count : length l.states.items ≡ l.counter; fresh : All IsFresh l.states.items }

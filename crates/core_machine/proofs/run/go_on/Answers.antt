@@ -1,0 +1,48 @@
+use Rattle.std.proofs.Common.{◌≡◌, false, length, map, refl, sym, ap, subst, arith, ◌∙◌}
+use Rattle.std.specs.Vec.{with_items}
+use Rattle.std.proofs.lemmas.List.{with_items_is, length-map}
+use Rattle.core_machine.specs.Kept.{told}
+use Rattle.core_machine.specs.MomentKept.{moment_of, after_line}
+use Rattle.core_machine.specs.Standing.{Holds}
+use Rattle.core_machine.specs.Turns.{Places}
+use Rattle.core_machine.proofs.Refines.Told.{Holds-told, moment-told}
+use Rattle.core_machine.proofs.run.go_on.Goals as goal
+use Rattle.core_machine.proofs.run.go_on.Goals.{After-run-1}
+
+-- every path's state after all were told
+states-told : (c : After-run-1) → c.tell_all.new.states ≡ map told c.args.run.now.states.items
+states-told c = c.tell_all.ensures ∙ ap (map told) c.deref_mut.ensures.value
+
+states-are : (c : After-run-1) → (with_items c.args.run.now.states c.tell_all.new.states).items ≡ map told c.args.run.now.states.items
+states-are c =
+    let states = c.args.run.now.states in
+    with_items_is states c.tell_all.new.states (omega (arith, ap length (states-told c), length-map states.items told, states.ok.0)) ∙ states-told c
+
+pub returns-then-advance-clause-run : goal.returns-then-advance-clause-run
+returns-then-advance-clause-run c =
+    let r = c.args.run.now in
+    record {
+      sized = ap length (states-are c) ∙ length-map r.states.items told ∙ c.requires.sized;
+      phases = c.advance.ensures.in_phase;
+      holds = λ _. subst (λ xs. Holds r.script.now r.paths xs r.answers c.advance.new.self) (sym (states-are c))
+          (Holds-told r.script.now r.paths r.states.items r.answers (after_line r.turns c.args.r) c.advance.new.self c.advance.ensures.job c.advance.ensures.places c.if-advance.ensures.began c.requires.holds);
+    }
+
+pub returns-then-advance-clause-moment : goal.returns-then-advance-clause-moment
+returns-then-advance-clause-moment c =
+    let r = c.args.run.now in
+    ap (λ xs. moment_of r.script.now r.paths xs r.answers c.advance.new.self r.spent) (states-are c)
+    ∙ moment-told r.script.now r.paths r.states.items r.answers (after_line r.turns c.args.r) c.advance.new.self r.spent c.advance.ensures.places
+    ∙ ap (moment_of r.script.now r.paths r.states.items r.answers (after_line r.turns c.args.r)) c.requires.unspent
+
+same_places : (v w : Places) → v.job ≡ w.job → v.places ≡ w.places → v.phase ≡ w.phase → v ≡ w
+same_places v w j p n i = record { job = j i; places = p i; phase = n i }
+
+pub returns-else-advance-clause-run : goal.returns-else-advance-clause-run
+returns-else-advance-clause-run c =
+    let r = c.args.run.now in
+    record {
+      sized = c.requires.sized;
+      phases = c.advance.ensures.in_phase;
+      holds = λ _. subst (Holds r.script.now r.paths r.states.items r.answers) (sym (same_places c.advance.new.self (after_line r.turns c.args.r) c.advance.ensures.job c.advance.ensures.places c.if-advance.ensures.same)) c.requires.holds;
+    }

@@ -1,0 +1,5 @@
+-- The event of each operation.
+pub mod Create
+pub mod Write
+pub mod Sync
+pub mod Read

@@ -1,0 +1,20 @@
+-- A write fills slots of its client's log, where the file at the client's front may be written and the write doesn't end
+-- past the longest file.
+use Rattle.std.specs.Prelude.{ℕ, ◌+◌, nat_lt, length, if◌then◌else◌}
+use Rattle.fs_types.specs.declared.answer.Answer.TheVariants as answers
+use Rattle.fs_types.specs.declared.limits.TheConstants.{LONGEST_FILE}
+use Rattle.fs_script.specs.Payload.{Write, parts_of}
+use Rattle.core_machine.specs.Event.{Event, PathNow, answered, if_open}
+
+abbrev pub write_within : ℕ → Write → Event
+write_within chunk x =
+    if nat_lt LONGEST_FILE (x.at + length x.bytes) then answered answers.TooBig
+    else answered (answers.Wrote (parts_of chunk (length x.bytes)))
+
+abbrev pub write_at_front : ℕ → PathNow → Write → Event
+write_at_front chunk w x =
+    if w.at_front.exists then if w.at_front.frozen then answered (answers.ReadOnly w.front) else write_within chunk x
+    else answered (answers.NoEnt w.front)
+
+abbrev pub write_event : ℕ → PathNow → Write → Event
+write_event chunk w x = if_open w (write_at_front chunk w x)

@@ -1,0 +1,75 @@
+-- One step of a simulated run: the client whose turn it is has one event, by what the definitions say of the moment.
+use Rattle.std.specs.Prelude.{ℕ, ◌+◌, false, List, length, is_some, Option, Some, None, slice_set, if◌then◌else◌}
+use Rattle.fs_types.specs.declared.answer.Answer.{Answer}
+use Rattle.fs_types.specs.AnswerList.{put_answer}
+use Rattle.fs_script.specs.declared.line.OpLine.{OpLine}
+use Rattle.fs_script.specs.declared.line.Op.{Op}
+use Rattle.fs_script.specs.declared.line.Op.TheVariants as ops
+use Rattle.fs_script.specs.Job.{Job, op_at}
+use Rattle.fs_script.specs.Payload.{data_bytes}
+use Rattle.fs_script.specs.Pending.{Answering, pending}
+use Rattle.fs_script.specs.Effect.{state}
+use Rattle.fs_script.specs.Front.{front, is_open}
+use Rattle.core_machine.specs.Moment.{Client, Moment, answering, client_of, journal, next_line, with_entry}
+use Rattle.core_machine.specs.Event.{Event, PathNow, known_of}
+use Rattle.core_machine.specs.Events.Create.{create_event}
+use Rattle.core_machine.specs.Events.Write.{write_event}
+use Rattle.core_machine.specs.Events.Sync.{sync_event}
+use Rattle.core_machine.specs.Events.Read.{read_event}
+
+-- whose turn it is
+pub record Turn : Type 0 where
+  pub client : ℕ
+
+-- the event of an operation, by what it sees of its path
+abbrev pub event_of : ℕ → PathNow → Op → Event
+event_of chunk w ops.Create = create_event w
+event_of chunk w (ops.Write off text) = write_event chunk w (record { at = off; bytes = data_bytes text })
+event_of chunk w ops.Sync = sync_event w
+event_of chunk w (ops.Read off len) = read_event w (record { off = off; len = len })
+
+-- what line n, the operation o, sees of its path, whose journal is J
+abbrev pub path_now : Job → Answering → List ℕ → ℕ → OpLine → PathNow
+path_now s A J n o = record {
+  file = state s A J (length J);
+  version = length J;
+  pending = pending s A o.rank o.path n;
+  is_open = is_open s A o.rank o.path n;
+  front = front s A J o.rank o.path n;
+  at_front = known_of (state s A J (front s A J o.rank o.path n));
+}
+
+-- the event that line n of the moment's job has now
+abbrev pub event_at : Moment → ℕ → OpLine → Event
+event_at m n o = event_of m.job.shape.chunk (path_now m.job (answering m) (journal m o.path) n o) o.op
+
+-- the answers with that to line n, if it has one
+abbrev pub with_answer : ℕ → Option Answer → List (ℕ × Answer) → List (ℕ × Answer)
+with_answer n None xs = xs
+with_answer n (Some a) xs = put_answer n a xs
+
+-- a client after an event of its line: an answer brings it to the next one
+abbrev pub after_turn : Client → Event → Client
+after_turn c e = record { place = if is_some e.answer then c.place + 1 else c.place; doing = e.doing }
+
+-- the moment after client r's line n, the operation o, had this event
+abbrev pub after_event : Moment → ℕ → ℕ → OpLine → Event → Moment
+after_event m r n o e = record {
+  job = m.job;
+  clients = slice_set m.clients r (after_turn (client_of m r) e);
+  answers = with_answer n e.answer m.answers;
+  journals = if e.commits then with_entry o.path n m.journals else m.journals;
+  spent = false;
+}
+
+abbrev pub step_line : Moment → ℕ → ℕ → Option OpLine → Moment
+step_line m r n None = m
+step_line m r n (Some o) = after_event m r n o (event_at m n o)
+
+abbrev pub step_at : Moment → ℕ → Option ℕ → Moment
+step_at m r None = m
+step_at m r (Some n) = step_line m r n (op_at m.job n)
+
+-- the moment after one event of the client whose turn it is; a client with no line left has none
+abbrev pub step : Moment → Turn → Moment
+step m t = step_at m t.client (next_line m t.client)
