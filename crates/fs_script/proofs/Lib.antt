@@ -18,7 +18,12 @@ pub mod Programs
 pub mod AnsweredLines
 pub mod SoFar
 pub mod Finished
+pub mod FileBytes
+pub mod Digests
+pub mod JournalLines
+pub mod PrintableAnswers
 pub mod TextParts
 pub mod TextReader
 pub mod TextRead
+pub mod LegalReports
 mod TextCases

@@ -1,5 +1,6 @@
 pub mod Tables
 pub mod Overwrites
+pub mod PlainFiles
 pub mod AnswerOrder
 pub mod Grammar
 mod Cases
