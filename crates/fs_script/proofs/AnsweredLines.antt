@@ -1,13 +1,14 @@
 -- The lines of rising answers, one answer for each number of a range that passes a test.
-use Rattle.std.proofs.Common.{◌≡◌, ℕ, zero, suc, ◌+◌, ◌≤◌, Bool, true, false, List, [], ◌∷◌, map, Option, Some, None, is_some, true≢false, refl, sym, ap, ◌∙◌, subst, inl, inr, arith}
+use Rattle.std.proofs.Common.{◌≡◌, ℕ, zero, suc, ◌+◌, ◌≤◌, Bool, true, false, List, [], ◌∷◌, map, None, is_some, true≢false, refl, sym, ap, ◌∙◌, subst, inl, inr, arith}
 use Rattle.std.specs.List.{filter, range_with_len}
 use Rattle.std.proofs.lemmas.Bool.{cond_both, cases_eq}
 use Rattle.std.proofs.lemmas.Option.{none-some}
 use Rattle.fs_types.specs.declared.answer.Answer.{Answer}
 use Rattle.fs_types.specs.AnswerList.{answer_at, IsRisingFrom}
-use Rattle.fs_types.proofs.Tables.{answer_at-same, answer_at-other, IsRisingFrom-lower}
-use Rattle.fs_types.proofs.AnswerOrder.{answer_at-rising_below}
+use Rattle.fs_types.proofs.CallerLemmas.{answer_at-same, answer_at-other, answer_at-rising_below, IsRisingFrom-lower}
+pub use Rattle.fs_script.proofs.PlainLists.{none_from-is_some}
 
+-- without an answer to its first number, a list rises from the next one
 pub rises_past : (xs : List (ℕ × Answer)) (k : ℕ) → IsRisingFrom k xs → answer_at xs k ≡ None → IsRisingFrom (k + 1) xs
 rises_past [] k h e = tt
 rises_past ((i, a) ∷ xs) k h e =
@@ -16,10 +17,7 @@ rises_past ((i, a) ∷ xs) k h e =
       | inr other ↦ (let from = h.0 in omega arith, h.1)
     ]
 
-pub none_from-is_some : {X : Type 0} (x : Option X) → is_some x ≡ false → x ≡ None
-none_from-is_some None h = refl
-none_from-is_some (Some y) h = absurd (true≢false h)
-
+-- the lines of answers whose first number passes, where those of the rest are known
 with_passing : (P : ℕ → Bool) (a : ℕ) (rest : List ℕ) (xs : List (ℕ × Answer)) → IsRisingFrom a xs → ((n : ℕ) → a ≤ n → is_some (answer_at xs n) ≡ P n) → P a ≡ true
     → ((ys : List (ℕ × Answer)) → IsRisingFrom (a + 1) ys → ((n : ℕ) → a + 1 ≤ n → is_some (answer_at ys n) ≡ P n) → map (λ x. x.0) ys ≡ rest) → map (λ x. x.0) xs ≡ a ∷ rest
 with_passing P a rest [] rising same e go = absurd (true≢false (sym e ∙ sym (same a (omega arith))))

@@ -6,8 +6,7 @@ use Rattle.std.proofs.lemmas.List.Elements.{All-nil, All-weaker}
 use Rattle.std.proofs.lemmas.List.Sums.{AllPass-from_list_all}
 use Rattle.fs_types.specs.declared.limits.TheConstants.{LONGEST_FILE}
 use Rattle.fs_types.specs.PlainFile.{File, written}
-use Rattle.fs_types.proofs.PlainFiles.{All-written, length-written}
-use Rattle.fs_script.specs.declared.shape.Shape.{Shape}
+use Rattle.fs_types.proofs.CallerLemmas.{All-written, length-written}
 use Rattle.fs_script.specs.declared.line.OpLine.{OpLine}
 use Rattle.fs_script.specs.declared.line.Op.{Op}
 use Rattle.fs_script.specs.declared.line.Op.TheVariants as ops
@@ -37,12 +36,13 @@ AllBytes-brought (ops.Write off (Text bytes)) is =
 AllBytes-brought ops.Sync is = All-nil (λ b. b < 256)
 AllBytes-brought (ops.Read off len) is = All-nil (λ b. b < 256)
 
-AllBytes-brought_in : (h : Shape) (o : Option OpLine) → ((l : OpLine) → o ≡ Some l → IsOpLine h l) → AllBytes (bytes_brought (brought_in o))
-AllBytes-brought_in h None each = All-nil (λ b. b < 256)
-AllBytes-brought_in h (Some l) each = AllBytes-brought l.op (each l refl).op
+module _ (s : Job) (job : IsJob s) where
+  AllBytes-brought_in : (o : Option OpLine) → ((l : OpLine) → o ≡ Some l → IsOpLine s.shape l) → AllBytes (bytes_brought (brought_in o))
+  AllBytes-brought_in None each = All-nil (λ b. b < 256)
+  AllBytes-brought_in (Some l) each = AllBytes-brought l.op (each l refl).op
 
-pub AllBytes-payload : (s : Job) (n : ℕ) → IsJob s → AllBytes (payload s n)
-AllBytes-payload s n job = AllBytes-brought_in s.shape (op_at s n) (λ l is. IsOpLine-from_job s n l job is)
+  AllBytes-payload : (n : ℕ) → AllBytes (payload s n)
+  AllBytes-payload n = AllBytes-brought_in (op_at s n) (λ l is. IsOpLine-from_job s n l job is)
 
 -- ---- files
 
@@ -55,30 +55,37 @@ pub record AreWithinLimits (cells : List ℕ) : Type 0 where
 abbrev pub IsWithinLimits : File ℕ → Type 0
 IsWithinLimits f = IfSome f (λ c. AreWithinLimits c.cells)
 
-AreWithinLimits-put_lines : (s : Job) (ns : List ℕ) (xs : List ℕ) → IsJob s → AreWithinLimits xs → AreWithinLimits (put_lines s (bytes_of s) ns xs)
-AreWithinLimits-put_lines s [] xs job within = within
-AreWithinLimits-put_lines s (n ∷ ns) xs job within = AreWithinLimits-put_lines s ns (written 0 xs (offset s n) (payload s n)) job (record {
-  length = length-written 0 xs (offset s n) (payload s n) within.length;
-  bytes = All-written (λ b. b < 256) 0 xs (offset s n) (payload s n) (omega arith) within.bytes (AllBytes-payload s n job);
-})
+module _ (s : Job) (job : IsJob s) where
+  AreWithinLimits-put_lines : (ns xs : List ℕ) → AreWithinLimits xs → AreWithinLimits (put_lines s (bytes_of s) ns xs)
+  AreWithinLimits-put_lines [] xs within = within
+  AreWithinLimits-put_lines (n ∷ ns) xs within =
+      let bytes = payload s n in
+      AreWithinLimits-put_lines ns (written 0 xs (offset s n) bytes) (record {
+        length = length-written 0 xs (offset s n) bytes within.length;
+        bytes = All-written (λ b. b < 256) 0 xs (offset s n) bytes (omega arith) within.bytes (AllBytes-payload s job n);
+      })
 
-IsWithinLimits-makes : (s : Job) (op : Op) (q : List ℕ) (f : File ℕ) → IsJob s → IsWithinLimits f → IsWithinLimits (makes s (bytes_of s) op q f)
-IsWithinLimits-makes s ops.Create q f job within = record { length = omega arith; bytes = All-nil (λ b. b < 256) }
-IsWithinLimits-makes s (ops.Write off text) q f job within = within
-IsWithinLimits-makes s ops.Sync q None job within = tt
-IsWithinLimits-makes s ops.Sync q (Some c) job within = AreWithinLimits-put_lines s q c.cells job within
-IsWithinLimits-makes s (ops.Read off len) q f job within = within
+  IsWithinLimits-makes : (op : Op) (q : List ℕ) (f : File ℕ) → IsWithinLimits f → IsWithinLimits (makes s (bytes_of s) op q f)
+  IsWithinLimits-makes ops.Create q f within = record { length = omega arith; bytes = All-nil (λ b. b < 256) }
+  IsWithinLimits-makes (ops.Write off text) q f within = within
+  IsWithinLimits-makes ops.Sync q None within = tt
+  IsWithinLimits-makes ops.Sync q (Some c) within = AreWithinLimits-put_lines q c.cells within
+  IsWithinLimits-makes (ops.Read off len) q f within = within
 
-IsWithinLimits-effect_in : (s : Job) (o : Option OpLine) (q : List ℕ) (f : File ℕ) → IsJob s → IsWithinLimits f → IsWithinLimits (effect_in s (bytes_of s) o q f)
-IsWithinLimits-effect_in s None q f job within = within
-IsWithinLimits-effect_in s (Some o) q f job within =
-    cond_both (is_enabled o.op f) (makes s (bytes_of s) o.op q f) f IsWithinLimits (λ _. IsWithinLimits-makes s o.op q f job within) (λ _. within)
+  IsWithinLimits-effect_in : (o : Option OpLine) (q : List ℕ) (f : File ℕ)
+      → IsWithinLimits f → IsWithinLimits (effect_in s (bytes_of s) o q f)
+  IsWithinLimits-effect_in None q f within = within
+  IsWithinLimits-effect_in (Some o) q f within =
+      cond_both (is_enabled o.op f) (makes s (bytes_of s) o.op q f) f IsWithinLimits
+      (λ _. IsWithinLimits-makes o.op q f within) (λ _. within)
 
-IsWithinLimits-after_all : (s : Job) (A : Answering) (J : List ℕ) (f : File ℕ) → IsJob s → IsWithinLimits f → IsWithinLimits (after_all s (bytes_of s) A J f)
-IsWithinLimits-after_all s A [] f job within = within
-IsWithinLimits-after_all s A (n ∷ J) f job within =
-    IsWithinLimits-after_all s A J (effect s (bytes_of s) A n f) job (IsWithinLimits-effect_in s (op_at s n) (pending_at s A n) f job within)
+  IsWithinLimits-after_all : (A : Answering) (J : List ℕ) (f : File ℕ)
+      → IsWithinLimits f → IsWithinLimits (after_all s (bytes_of s) A J f)
+  IsWithinLimits-after_all A [] f within = within
+  IsWithinLimits-after_all A (n ∷ J) f within =
+      let next = IsWithinLimits-effect_in (op_at s n) (pending_at s A n) f within in
+      IsWithinLimits-after_all A J (effect s (bytes_of s) A n f) next
 
--- the file at each version of a journal
-pub IsWithinLimits-state : (s : Job) (A : Answering) (J : List ℕ) (v : ℕ) → IsJob s → IsWithinLimits (state s A J v)
-IsWithinLimits-state s A J v job = IsWithinLimits-after_all s A (take v J) None job tt
+  -- the file at each version of a journal
+  pub IsWithinLimits-state : (A : Answering) (J : List ℕ) (v : ℕ) → IsWithinLimits (state s A J v)
+  IsWithinLimits-state A J v = IsWithinLimits-after_all A (take v J) None tt

@@ -1,3 +1,5 @@
+pub mod CallerLemmas
+pub mod PlainLists
 pub mod FiveLines
 pub mod Number
 pub mod Lines
