@@ -6,7 +6,7 @@ use Rattle.std.proofs.lemmas.Bool.Decides.{nat_tests}
 use Rattle.fs_types.specs.declared.answer.Answer.{Answer}
 use Rattle.fs_types.specs.AnswerList.{answer_at, put_answer}
 use Rattle.fs_types.specs.PlainFile.{File}
-use Rattle.fs_types.proofs.AnswerOrder.{answer_at-put_answer}
+use Rattle.fs_types.proofs.CallerLemmas.{answer_at-put_answer}
 use Rattle.fs_script.specs.declared.line.Op.{Op}
 use Rattle.fs_script.specs.declared.line.OpLine.{OpLine}
 use Rattle.fs_script.specs.Job.{Job, op_at, own_at}

@@ -1,13 +1,14 @@
 -- The lines of rising answers, one answer for each number of a range that passes a test.
-use Rattle.std.proofs.Common.{◌≡◌, ℕ, zero, suc, ◌+◌, ◌≤◌, Bool, true, false, List, [], ◌∷◌, map, Option, Some, None, is_some, true≢false, refl, sym, ap, ◌∙◌, subst, inl, inr, arith}
+use Rattle.std.proofs.Common.{◌≡◌, ℕ, zero, suc, ◌+◌, ◌≤◌, Bool, true, false, List, [], ◌∷◌, map, None, is_some, true≢false, refl, sym, ap, ◌∙◌, subst, inl, inr, arith}
 use Rattle.std.specs.List.{filter, range_with_len}
 use Rattle.std.proofs.lemmas.Bool.{cond_both, cases_eq}
 use Rattle.std.proofs.lemmas.Option.{none-some}
 use Rattle.fs_types.specs.declared.answer.Answer.{Answer}
 use Rattle.fs_types.specs.AnswerList.{answer_at, IsRisingFrom}
-use Rattle.fs_types.proofs.Tables.{answer_at-same, answer_at-other}
-use Rattle.fs_types.proofs.AnswerOrder.{answer_at-rising_below}
+use Rattle.fs_types.proofs.CallerLemmas.{answer_at-same, answer_at-other, answer_at-rising_below, IsRisingFrom-lower}
+pub use Rattle.fs_script.proofs.PlainLists.{none_from-is_some}
 
+-- without an answer to its first number, a list rises from the next one
 pub rises_past : (xs : List (ℕ × Answer)) (k : ℕ) → IsRisingFrom k xs → answer_at xs k ≡ None → IsRisingFrom (k + 1) xs
 rises_past [] k h e = tt
 rises_past ((i, a) ∷ xs) k h e =
@@ -16,10 +17,7 @@ rises_past ((i, a) ∷ xs) k h e =
       | inr other ↦ (let from = h.0 in omega arith, h.1)
     ]
 
-pub none_from-is_some : {X : Type 0} (x : Option X) → is_some x ≡ false → x ≡ None
-none_from-is_some None h = refl
-none_from-is_some (Some y) h = absurd (true≢false h)
-
+-- the lines of answers whose first number passes, where those of the rest are known
 with_passing : (P : ℕ → Bool) (a : ℕ) (rest : List ℕ) (xs : List (ℕ × Answer)) → IsRisingFrom a xs → ((n : ℕ) → a ≤ n → is_some (answer_at xs n) ≡ P n) → P a ≡ true
     → ((ys : List (ℕ × Answer)) → IsRisingFrom (a + 1) ys → ((n : ℕ) → a + 1 ≤ n → is_some (answer_at ys n) ≡ P n) → map (λ x. x.0) ys ≡ rest) → map (λ x. x.0) xs ≡ a ∷ rest
 with_passing P a rest [] rising same e go = absurd (true≢false (sym e ∙ sym (same a (omega arith))))
@@ -47,3 +45,19 @@ lines-passing P (suc len) a xs rising same past =
     cond_both (P a) (a ∷ rest) rest (λ ns. map (λ x. x.0) xs ≡ ns)
     (λ e. with_passing P a rest xs rising same e (λ ys h k. lines-passing P len (a + 1) ys h k (λ n from. past n (omega arith))))
     (λ e. lines-passing P len (a + 1) xs (rises_past xs a rising (none_from-is_some (answer_at xs a) (same a (omega arith) ∙ e))) (λ n from. same n (omega arith)) (λ n from. past n (omega arith)))
+
+-- the other way: answers whose lines are those numbers rise
+pub rising-passing : (P : ℕ → Bool) (len a : ℕ) (xs : List (ℕ × Answer)) → map (λ x. x.0) xs ≡ filter P (range_with_len a len) → IsRisingFrom a xs
+rising-passing P len a [] same = tt
+rising-passing P zero a (x ∷ xs) same = cc
+rising-passing P (suc len) a (x ∷ xs) same =
+    let rest = filter P (range_with_len (a + 1) len) in
+    cond_both (P a) (a ∷ rest) rest (λ ns. x.0 ∷ map (λ y. y.0) xs ≡ ns → IsRisingFrom a (x ∷ xs))
+    (λ _ e. first e (rising-passing P len (a + 1) xs (cc)))
+    (λ _ e. IsRisingFrom-lower (x ∷ xs) a (a + 1) (omega arith) (rising-passing P len (a + 1) (x ∷ xs) e)) same
+  where
+    first : {ns : List ℕ} → x.0 ∷ map (λ (y : ℕ × Answer). y.0) xs ≡ a ∷ ns → IsRisingFrom (a + 1) xs → IsRisingFrom a (x ∷ xs)
+    first e above =
+        let is : x.0 ≡ a = cc in
+        let next : a + 1 ≡ suc x.0 = omega arith in
+        (omega arith, subst (λ k. IsRisingFrom k xs) next above)

@@ -8,9 +8,8 @@ use Rattle.fs_script.specs.declared.line.OpLine.{OpLine}
 use Rattle.fs_script.specs.Job.{Job, op_at, op_lines}
 use Rattle.fs_script.specs.Report.{Report, HasShape, FilesAreStates, IsLegal, answering, journal_of}
 use Rattle.fs_script.specs.SoFar.{IsLegalSoFar}
-use Rattle.fs_script.proofs.JournalGrows.{some_of}
+use Rattle.fs_script.proofs.PlainLists.{passing-place, some_of}
 use Rattle.fs_script.proofs.Jobs.{op_at-within}
-use Rattle.fs_script.proofs.Programs.{passing-place}
 
 -- ---- the lines that are operations
 

@@ -1,6 +1,6 @@
 -- An answer that fits goes on fitting: as answers come that change nothing before its line or pending at the journal's lines,
 -- and as the journal grows at its end by lines of no earlier phase.
-use Rattle.std.proofs.Common.{◌≡◌, ℕ, zero, suc, ◌≤◌, Bool, true, false, IsTrue, List, [], ◌∷◌, ◌++◌, length, Option, Some, None, IsSome, IsNone, IfSome, MatchBool, slice_get, sym, subst, append-nil, append_assoc, arith}
+use Rattle.std.proofs.Common.{◌≡◌, ℕ, zero, suc, ◌≤◌, Bool, true, false, IsTrue, List, [], ◌∷◌, ◌++◌, length, Option, Some, None, IsSome, IsNone, IfSome, MatchBool, sym, subst, arith}
 use Rattle.std.specs.List.{AllByRecursion}
 use Rattle.std.proofs.lemmas.Option.{none-some}
 use Rattle.std.proofs.lemmas.List.{take-append-le, length_push}
@@ -21,6 +21,7 @@ use Rattle.fs_script.specs.Growth.{AgreeBefore, SamePending}
 use Rattle.fs_script.proofs.Agreement.{pending-agree, is_open-agree}
 use Rattle.fs_script.proofs.States.{state_in-agree, state_in-push}
 use Rattle.fs_script.proofs.Fronts.{front-agree, front-push}
+use Rattle.fs_script.proofs.PlainLists.{slice_get-push}
 
 -- ---- answers come
 
@@ -56,11 +57,6 @@ Fits-agree told s A B J n o a h same fits = record {
 }
 
 -- ---- the journal grows
-
-slice_get-push : {X : Type 0} (xs : List X) (y : X) (k : ℕ) (x : X) → slice_get xs k ≡ Some x → slice_get (xs ++ y ∷ []) k ≡ Some x
-slice_get-push [] y k x h = absurd (none-some x h)
-slice_get-push (z ∷ xs) y zero x h = h
-slice_get-push (z ∷ xs) y (suc k) x h = slice_get-push xs y k x h
 
 entry-push : (J : List ℕ) (m v n : ℕ) → entry J v ≡ Some n → entry (J ++ m ∷ []) v ≡ Some n
 entry-push J m zero n h = absurd (none-some n h)
@@ -141,13 +137,3 @@ pub Fits-grows : (told : List ℕ) (s : Job) (A B : Answering) (J : List ℕ) (m
     → phase s n ≤ phase s m → front s A J o.rank o.path n ≤ length J → Fits told s A J n o a → Fits told s B (J ++ m ∷ []) n o a
 Fits-grows told s A B J m n o a h same later within fits =
     Fits-push told s B J m n o a later (subst (λ k. k ≤ length J) (front-agree s A B J o.rank o.path n h) within) (Fits-agree told s A B J n o a h same fits)
-
--- several commits, one after the other
-pub Fits-append : (told : List ℕ) (s : Job) (A : Answering) (J K : List ℕ) (n : ℕ) (o : OpLine) (a : Answer) → AllByRecursion (λ m. phase s n ≤ phase s m) K → front s A J o.rank o.path n ≤ length J
-    → Fits told s A J n o a → Fits told s A (J ++ K) n o a
-Fits-append told s A J [] n o a later within fits = subst (λ L. Fits told s A L n o a) (sym (append-nil J)) fits
-Fits-append told s A J (m ∷ K) n o a later within fits =
-    let same = front-push s A J o.rank o.path n m later.0 in
-    let size = length_push J m in
-    let pushed = Fits-push told s A J m n o a later.0 within fits in
-    subst (λ L. Fits told s A L n o a) (append_assoc J (m ∷ []) K) (Fits-append told s A (J ++ m ∷ []) K n o a later.1 (omega arith) pushed)

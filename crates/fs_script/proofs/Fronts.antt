@@ -1,15 +1,12 @@
 -- Phases rise with the lines, and a front doesn't change while the journal grows by lines of no earlier phase.
-use Rattle.std.proofs.Common.{◌≡◌, ℕ, ◌+◌, ◌-◌, ◌≤◌, List, [], ◌∷◌, ◌++◌, length, take, max, Bool, cond, nat_lt, count_by, ap, ◌∙◌, subst, le-ltb, take-take, arith}
-use Rattle.std.proofs.lemmas.List.Sums.{sum_by_push, sum_by-take-le, count_by-le-length}
+use Rattle.std.proofs.Common.{◌≡◌, ℕ, ◌+◌, ◌-◌, ◌≤◌, List, [], ◌∷◌, ◌++◌, length, max, cond, nat_lt, ap, ◌∙◌, le-ltb, arith}
+use Rattle.std.proofs.lemmas.List.Sums.{sum_by_push, count_by-le-length}
 use Rattle.fs_script.specs.Job.{Job, is_barrier, phase}
 use Rattle.fs_script.specs.Pending.{Answering}
 use Rattle.fs_script.specs.Front.{seen, of_earlier_phases, front}
 use Rattle.fs_script.specs.Growth.{AgreeBefore}
 use Rattle.fs_script.proofs.Agreement.{seen-agree}
-
--- a longer front has at least as many that pass
-count_by-take-rises : {X : Type 0} (p : X → Bool) (xs : List X) (a b : ℕ) → a ≤ b → count_by p (take a xs) ≤ count_by p (take b xs)
-count_by-take-rises p xs a b le = subst (λ ys. count_by p ys ≤ count_by p (take b xs)) (take-take a b xs le) (sum_by-take-le (λ x. cond (p x) 1 0) (take b xs) a)
+use Rattle.fs_script.proofs.PlainLists.{count_by-take-rises}
 
 pub phase-rises : (s : Job) (m n : ℕ) → m ≤ n → phase s m ≤ phase s n
 phase-rises s m n le = count_by-take-rises is_barrier s.lines (m - 2) (n - 2) (omega arith)

@@ -1,6 +1,7 @@
--- A line that is answered now: its front is at most the present length of the journal, and what it needs of the file is there.
-use Rattle.std.proofs.Common.{◌≡◌, ℕ, zero, suc, ◌≤◌, ◌<◌, Bool, true, List, [], ◌∷◌, length, Option, Some, None, IsSome, IfSome, ◌++◌, ◌==◌, ◌&&◌, bytes_eq, eqb-true, true≢false, inl, inr, refl, sym, ap, ◌∙◌, subst, arith}
-use Rattle.std.proofs.lemmas.Option.{none-some, same_Some, cond_some}
+-- A line that is answered now: its front is at most the present length of the journal, and which versions it may print.
+use Rattle.std.proofs.Common.{◌≡◌, ℕ, zero, suc, ◌≤◌, ◌<◌, List, [], ◌∷◌, length, Option, Some, None, IsSome, ◌++◌, ◌==◌, ◌&&◌, bytes_eq, eqb-true, refl, sym, ap, ◌∙◌, arith}
+use Rattle.std.specs.Prelude.{⊤}
+use Rattle.std.proofs.lemmas.Option.{none-some, cond_some, MatchOption-at_some}
 use Rattle.std.proofs.lemmas.Bool.{and_parts}
 use Rattle.std.proofs.lemmas.List.{length_push}
 use Rattle.std.proofs.lemmas.Slice.Eq.{bytes_eq-Decides}
@@ -15,9 +16,10 @@ use Rattle.fs_script.specs.Front.{at_least, seen_after, seen, front}
 use Rattle.fs_script.specs.Fits.{IsNoLater, IsInReach}
 use Rattle.fs_script.specs.Journal.{IsLegalJournal}
 use Rattle.fs_script.specs.Growth.{AllFit, ComesNext, IsOfNoEarlierPhase}
-use Rattle.fs_script.proofs.States.{AllByRecursion-take}
 use Rattle.fs_script.proofs.Fronts.{of_earlier_phases-le-length, front-push}
-use Rattle.fs_script.proofs.JournalGrows.{AllByRecursion-from_get, AllByRecursion-at, answered-in_journal, some_of}
+use Rattle.fs_script.proofs.JournalGrows.{answered-in_journal}
+use Rattle.fs_script.proofs.PlainLists.{AllByRecursion-from_get, AllByRecursion-at, AllByRecursion-take, some_of}
+pub use Rattle.fs_script.proofs.PlainLists.{AllByRecursion-push}
 
 -- ---- the front
 
@@ -54,10 +56,6 @@ own_op-is r p (Some l) op h k =
     let both = and_parts (l.rank == r) (bytes_eq l.path p) parts.0 in
     k l refl (eqb-true l.rank r both.0) ((bytes_eq-Decides l.path p).0 both.1) parts.1
 
-version-le : (v : Option ℕ) (w : ℕ) (P : ℕ → Type 0) → v ≡ Some w → IfSome v P → P w
-version-le None w P is h = absurd (none-some w is)
-version-le (Some v) w P is h = subst P (same_Some v w is) h
-
 -- no version that was printed is more than the journal's length
 versions-le : (told : List ℕ) (s : Job) (A : Answering) (J : List ℕ) (r : ℕ) (p : List ℕ) (m : ℕ) (a : Answer) (v : ℕ)
     → AllFit told s A p J → IsSome (own_at s r p m) → A m ≡ Some a → version_of a ≡ Some v → v ≤ length J
@@ -65,7 +63,7 @@ versions-le told s A J r p m a v fit own given prints =
     let op = some_of (own_at s r p m) own in
     own_op-is r p (op_at s m) op.0 op.1 (λ o is of_rank on does.
     let fits = fit.each m o a is on given in
-    (version-le (version_of a) v (λ w. IsInReach s A J m o w) prints fits.version).length)
+    (MatchOption-at_some ⊤ (λ w. IsInReach s A J m o w) v prints fits.version).length)
 
 -- so a line's front isn't either
 pub front-le-length_fit : (told : List ℕ) (s : Job) (A : Answering) (J : List ℕ) (r : ℕ) (p : List ℕ) (n : ℕ) → AllFit told s A p J → front s A J r p n ≤ length J
@@ -91,11 +89,6 @@ IsInReach-now s A J n o v legal next is later from to = record {
   length = to;
   no_later = AllByRecursion-take (λ m. IsNoLater s o.rank n m) v J (IsNoLater-now s A o.path J n o.rank legal next (ap rank_in is) later);
 }
-
--- what holds of each line and of a new one
-pub AllByRecursion-push : (P : ℕ → Type 0) (J : List ℕ) (n : ℕ) → AllByRecursion P J → P n → AllByRecursion P (J ++ n ∷ [])
-AllByRecursion-push P [] n h k = (k, tt)
-AllByRecursion-push P (x ∷ J) n h k = (h.0, AllByRecursion-push P J n h.1 k)
 
 -- and the version that it makes itself, in the journal with the line at its end
 pub IsInReach-made : (s : Job) (A : Answering) (J : List ℕ) (n : ℕ) (o : OpLine) → IsLegalJournal s A o.path J → ComesNext s A n → op_at s n ≡ Some o → IsOfNoEarlierPhase s n J

@@ -1,5 +1,5 @@
 -- What a job within the limits says of each of its lines.
-use Rattle.std.proofs.Common.{◌≡◌, ℕ, zero, suc, ◌+◌, ◌<◌, ◌≤◌, List, [], ◌∷◌, length, Some, refl, subst, arith}
+use Rattle.std.proofs.Common.{◌≡◌, ℕ, zero, suc, ◌+◌, ◌<◌, ◌≤◌, List, [], ◌∷◌, length, Some, inl, refl, subst, arith}
 use Rattle.std.specs.List.{slice_get, AllByRecursion}
 use Rattle.std.specs.Prelude.{count_by, take}
 use Rattle.std.proofs.lemmas.Option.{same_Some}
@@ -8,6 +8,7 @@ use Rattle.fs_script.specs.declared.line.Line.{Line}
 use Rattle.fs_script.specs.declared.line.Line.TheVariants as lines
 use Rattle.fs_script.specs.declared.line.OpLine.{OpLine}
 use Rattle.fs_script.specs.Job.{Job, operation, op_at, is_barrier, phase}
+use Rattle.fs_script.specs.Fits.{AreTold}
 use Rattle.fs_script.specs.Grammar.{IsJob, IsLine, IsOpLine}
 
 at_head : (h : Shape) (l : Line) (o : OpLine) → IsLine h l → operation (Some l) ≡ Some o → IsOpLine h o
@@ -48,6 +49,12 @@ rank-first h o one is = omega (arith, is.rank, one)
 -- each operation is client 0's
 pub rank-from_job : (s : Job) (n : ℕ) (o : OpLine) → IsJob s → op_at s n ≡ Some o → o.rank ≡ 0
 rank-from_job s n o job is = rank-first s.shape o job.shape.clients (IsOpLine-from_job s n o job is)
+
+-- ---- spilling
+
+-- nothing is spilled, so every byte that is shown is compared
+pub AreTold-from_job : (s : Job) (told : List ℕ) → IsJob s → AreTold s told
+AreTold-from_job s told job = inl job.shape.spill
 
 -- ---- phases
 

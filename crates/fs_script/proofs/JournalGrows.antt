@@ -1,8 +1,7 @@
 -- A legal journal stays legal as an answer comes: unchanged where the answer commits nothing, and with the line at its end where it does.
-use Rattle.std.proofs.Common.{◌≡◌, ◌≢◌, ℕ, zero, suc, ◌≤◌, ◌<◌, true, List, [], ◌∷◌, ◌++◌, length, Option, Some, None, IsSome, is_some, cond, ◌==◌, ◌&&◌, ◌⊎◌, bytes_eq, slice_get, Contains, true≢false, eqb-true, refl, sym, ap, ◌∙◌, subst, subst₂, inl, inr, arith}
-use Rattle.std.specs.List.{AllByRecursion}
+use Rattle.std.proofs.Common.{◌≡◌, ◌≢◌, ℕ, suc, ◌≤◌, ◌<◌, true, List, [], ◌∷◌, ◌++◌, length, Option, Some, None, IsSome, is_some, cond, ◌==◌, ◌&&◌, bytes_eq, slice_get, Contains, true≢false, eqb-true, refl, sym, ap, ◌∙◌, subst, subst₂, inl, inr, arith}
 use Rattle.std.proofs.lemmas.Bool.{cases_eq, cases_Bool, and_parts}
-use Rattle.std.proofs.lemmas.Option.{none-some, same_Some, slice_get_within}
+use Rattle.std.proofs.lemmas.Option.{none-some, slice_get_within}
 use Rattle.std.proofs.lemmas.List.Elements.{Contains-append_left, Contains-push}
 use Rattle.fs_types.specs.declared.answer.Answer.{Answer}
 use Rattle.fs_script.specs.declared.line.OpLine.{OpLine}
@@ -13,7 +12,9 @@ use Rattle.fs_script.specs.Effect.{is_enabled, state}
 use Rattle.fs_script.specs.Journal.{committed, enabled_in, IsLegalEntry, IsLegalJournal}
 use Rattle.fs_script.specs.Growth.{AgreeBefore, AddsAnswer, ComesNext, IsOfNoEarlierPhase, SamePending}
 use Rattle.fs_script.proofs.Agreement.{pending-agree, committed-agree, committed-unanswered}
+use Rattle.fs_script.proofs.PlainLists.{AllByRecursion-at, slice_get-push_cases, slice_get-push_below}
 use Rattle.fs_script.proofs.States.{state_in-agree, state_in-push}
+pub use Rattle.fs_script.proofs.PlainLists.{AllByRecursion-from_get, slice_get-push_last, some_of}
 
 -- ---- what an answer leaves as it was
 
@@ -81,19 +82,6 @@ answered_from-commit s A p m v h = by (A m) refl where
 pub answered-in_journal : (s : Job) (A : Answering) (p : List ℕ) (J : List ℕ) (k m : ℕ) → IsLegalJournal s A p J → slice_get J k ≡ Some m → IsSome (A m)
 answered-in_journal s A p J k m legal at = answered_from-commit s A p m (suc k) (legal.entries k m at).committed
 
-pub AllByRecursion-from_get : (P : ℕ → Type 0) (J : List ℕ) → ((k m : ℕ) → slice_get J k ≡ Some m → P m) → AllByRecursion P J
-AllByRecursion-from_get P [] h = tt
-AllByRecursion-from_get P (x ∷ J) h = (h 0 x refl, AllByRecursion-from_get P J (λ k m at. h (suc k) m at))
-
-pub AllByRecursion-at : (P : ℕ → Type 0) (J : List ℕ) (k m : ℕ) → AllByRecursion P J → slice_get J k ≡ Some m → P m
-AllByRecursion-at P [] k m h at = absurd (none-some m at)
-AllByRecursion-at P (x ∷ J) zero m h at = subst P (same_Some x m at) h.0
-AllByRecursion-at P (x ∷ J) (suc k) m h at = AllByRecursion-at P J k m h.1 at
-
-pub some_of : {X : Type 0} (x : Option X) → IsSome x → (b : X) × (x ≡ Some b)
-some_of None h = absurd (true≢false (sym h))
-some_of (Some b) h = (b, refl)
-
 -- nothing pending at the lines of a legal journal changes
 pub pending_at-in_journal : (s : Job) (A B : Answering) (p : List ℕ) (J : List ℕ) (n : ℕ) (a : Answer) → AddsAnswer A n a B → ComesNext s A n → IsLegalJournal s A p J
     → SamePending s A B J
@@ -130,23 +118,6 @@ IsLegalJournal-kept s A B p J n a adds next none legal =
     }
 
 -- ---- an answer that commits its line to the path
-
--- an entry of a longer journal is one of the shorter, or the new one
-slice_get-push_cases : (J : List ℕ) (n k m : ℕ) → slice_get (J ++ n ∷ []) k ≡ Some m → (slice_get J k ≡ Some m) ⊎ ((k ≡ length J) × (m ≡ n))
-slice_get-push_cases [] n zero m at = inr (refl, sym (same_Some n m at))
-slice_get-push_cases [] n (suc k) m at = absurd (none-some m at)
-slice_get-push_cases (x ∷ J) n zero m at = inl at
-slice_get-push_cases (x ∷ J) n (suc k) m at =
-    elim (slice_get-push_cases J n k m at) [ inl old ↦ inl old | inr new ↦ inr (ap suc new.0, new.1) ]
-
--- the new one stands at the end
-pub slice_get-push_last : (J : List ℕ) (n : ℕ) → slice_get (J ++ n ∷ []) (length J) ≡ Some n
-slice_get-push_last [] n = refl
-slice_get-push_last (x ∷ J) n = slice_get-push_last J n
-
--- the entries before the new one, below a place
-slice_get-push_below : (J : List ℕ) (n i m : ℕ) → i < length J → slice_get (J ++ n ∷ []) i ≡ Some m → slice_get J i ≡ Some m
-slice_get-push_below J n i m below at = elim (slice_get-push_cases J n i m at) [ inl old ↦ old | inr new ↦ absurd (omega (arith, new.0)) ]
 
 -- an old entry in the longer journal
 IsLegalEntry-longer : (s : Job) (A : Answering) (p : List ℕ) (J : List ℕ) (n k m : ℕ) → k < length J → m ≢ n → IsLegalEntry s A p J k m → IsLegalEntry s A p (J ++ n ∷ []) k m

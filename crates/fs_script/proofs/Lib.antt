@@ -1,3 +1,5 @@
+pub mod CallerLemmas
+pub mod PlainLists
 pub mod FiveLines
 pub mod Number
 pub mod Lines
@@ -18,7 +20,12 @@ pub mod Programs
 pub mod AnsweredLines
 pub mod SoFar
 pub mod Finished
+pub mod FileBytes
+pub mod Digests
+pub mod JournalLines
+pub mod PrintableAnswers
 pub mod TextParts
 pub mod TextReader
 pub mod TextRead
+pub mod LegalReports
 mod TextCases

@@ -14,8 +14,9 @@ use Rattle.fs_script.specs.Journal.{commit_by, commit_in, committed, enabled_in,
 use Rattle.fs_script.specs.Growth.{AddsAnswer, IsOfNoEarlierPhase, AllFit}
 use Rattle.fs_script.specs.SoFar.{Journals, IsLegalSoFar, IsNextAnswer, Pushes}
 use Rattle.fs_script.proofs.FitsGrows.{Fits-agree, Fits-grows}
-use Rattle.fs_script.proofs.JournalGrows.{pending_at-next, AgreeBefore-next, AgreeBefore-answered, pending_at-in_journal, answered-in_journal, AllByRecursion-from_get, IsLegalJournal-none, IsLegalJournal-kept, IsLegalJournal-commit}
-use Rattle.fs_script.proofs.InReach.{AllByRecursion-push, front-le-length_fit}
+use Rattle.fs_script.proofs.JournalGrows.{pending_at-next, AgreeBefore-next, AgreeBefore-answered, pending_at-in_journal, answered-in_journal, IsLegalJournal-none, IsLegalJournal-kept, IsLegalJournal-commit}
+use Rattle.fs_script.proofs.InReach.{front-le-length_fit}
+use Rattle.fs_script.proofs.PlainLists.{AllByRecursion-from_get, AllByRecursion-push}
 
 -- ---- what a line commits, by its operation and answer
 

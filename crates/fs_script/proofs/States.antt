@@ -1,6 +1,5 @@
 -- The file after some lines of a journal: as the journal grows at its end, and as answers come that change nothing pending at its lines.
-use Rattle.std.proofs.Common.{◌≡◌, ℕ, zero, suc, ◌≤◌, List, [], ◌∷◌, ◌++◌, length, take, None, refl, sym, ap, ◌∙◌, take_all, arith}
-use Rattle.std.specs.List.{AllByRecursion}
+use Rattle.std.proofs.Common.{◌≡◌, ℕ, suc, ◌≤◌, List, [], ◌∷◌, ◌++◌, length, take, None, refl, sym, ap, ◌∙◌, take_all, arith}
 use Rattle.std.proofs.lemmas.List.{take-append-le, length_push}
 use Rattle.fs_types.specs.PlainFile.{File, written}
 use Rattle.fs_script.specs.Job.{Job}
@@ -9,6 +8,7 @@ use Rattle.fs_script.specs.Pending.{Answering, pending_at}
 use Rattle.fs_script.specs.Effect.{put_lines, effect, after_all, state_in}
 use Rattle.fs_script.specs.Growth.{SamePending}
 use Rattle.fs_script.proofs.Agreement.{effect-agree}
+use Rattle.fs_script.proofs.PlainLists.{AllByRecursion-take}
 
 -- ---- the journal grows
 
@@ -41,12 +41,6 @@ state_in-push_last s c A J n v is =
 after_all-agree : {X : Type 0} (s : Job) (c : Cells X) (A B : Answering) (J : List ℕ) (f : File X) → SamePending s A B J → after_all s c A J f ≡ after_all s c B J f
 after_all-agree s c A B [] f h = refl
 after_all-agree s c A B (n ∷ J) f h = ap (λ g. after_all s c A J g) (effect-agree s c A B n f h.0) ∙ after_all-agree s c A B J (effect s c B n f) h.1
-
--- what holds of each line holds of each of the first v
-pub AllByRecursion-take : {X : Type 0} (P : X → Type 0) (v : ℕ) (xs : List X) → AllByRecursion P xs → AllByRecursion P (take v xs)
-AllByRecursion-take P zero xs h = tt
-AllByRecursion-take P (suc v) [] h = tt
-AllByRecursion-take P (suc v) (x ∷ xs) h = (h.0, AllByRecursion-take P v xs h.1)
 
 -- the file at a version, where nothing pending at the lines of the journal changes
 pub state_in-agree : {X : Type 0} (s : Job) (c : Cells X) (A B : Answering) (J : List ℕ) (v : ℕ) → SamePending s A B J → state_in s c A J v ≡ state_in s c B J v

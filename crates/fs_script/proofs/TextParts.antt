@@ -1,8 +1,9 @@
 -- Texts that are cut at a byte: each part is of bytes above it.
-use Rattle.std.proofs.Common.{◌≡◌, ℕ, ◌+◌, ◌^◌, ◌/◌, ◌%◌, ◌<◌, ◌≤◌, ◌==◌, Bool, true, false, ◌&&◌, List, [], ◌∷◌, ◌++◌, Some, slice_index, refl, ◌∙◌, arith, All}
+use Rattle.std.proofs.Common.{◌≡◌, ℕ, ◌+◌, ◌^◌, ◌/◌, ◌%◌, ◌<◌, ◌≤◌, ◌==◌, true, false, ◌&&◌, List, [], ◌∷◌, ◌++◌, Some, slice_index, refl, ◌∙◌, arith, All}
 use Rattle.std.specs.Prelude.{nat_lt}
 use Rattle.std.specs.List.{list_all, slice_split}
 use Rattle.std.specs.Fmt.{decimal}
+use Rattle.std.proofs.lemmas.Bool.{and_from, eq-eqb}
 use Rattle.std.proofs.lemmas.Bool.Decides.{nat_tests}
 use Rattle.std.proofs.lemmas.Fmt.{decimal_by_steps}
 use Rattle.std.proofs.lemmas.List.Elements.{All-weaker}
@@ -13,7 +14,7 @@ use Rattle.hex.specs.Hex.{encode_lower, encode_with, hex_digit_value, lower_digi
 use Rattle.hex.proofs.HexLemmas.{IsDigits-lower_digits}
 use Rattle.fs_types.specs.PathLaws.{IsVisible}
 use Rattle.fs_types.specs.PathText.{IsPath}
-use Rattle.fs_types.proofs.Grammar.{path_is_visible}
+use Rattle.fs_types.proofs.CallerLemmas.{path_is_visible}
 use Rattle.fs_script.specs.Printable.{AreBytes}
 
 -- each byte is above c
@@ -34,13 +35,9 @@ not_at c b h = grind (arith, nat_tests)
 none_at : (c : ℕ) (xs : List ℕ) → AreAbove c xs → All (λ b. (b == c) ≡ false) xs
 none_at c xs h = All-weaker (λ b. nat_lt c b ≡ true) (λ b. (b == c) ≡ false) (not_at c) xs (AllPass-from_list_all (nat_lt c) xs h)
 
--- a byte is itself
-here : (c : ℕ) → (c == c) ≡ true
-here c = grind (arith, nat_tests)
-
 -- the first part ends at the first byte c
 pub cut_at-first : (c : ℕ) (xs ys : List ℕ) → AreAbove c xs → cut_at c (xs ++ c ∷ ys) ≡ xs ∷ cut_at c ys
-cut_at-first c xs ys h = slice_split_at (λ b. b == c) xs c ys (none_at c xs h) (here c)
+cut_at-first c xs ys h = slice_split_at (λ b. b == c) xs c ys (none_at c xs h) (eq-eqb c c refl)
 
 -- with no byte c there is one part
 pub cut_at-none : (c : ℕ) (xs : List ℕ) → AreAbove c xs → cut_at c xs ≡ xs ∷ []
@@ -48,13 +45,9 @@ cut_at-none c xs h = slice_split_none (λ b. b == c) xs (none_at c xs h)
 
 -- ---- which texts are above a byte
 
--- two tests that hold, joined
-both_hold : (a b : Bool) → a ≡ true → b ≡ true → (a && b) ≡ true
-both_hold a b h k = grind arith
-
 -- two texts above a byte, joined
 pub AreAbove-append : (c : ℕ) (xs ys : List ℕ) → AreAbove c xs → AreAbove c ys → AreAbove c (xs ++ ys)
-AreAbove-append c xs ys h k = list_all-append (nat_lt c) xs ys ∙ both_hold (list_all (nat_lt c) xs) (list_all (nat_lt c) ys) h k
+AreAbove-append c xs ys h k = list_all-append (nat_lt c) xs ys ∙ and_from (list_all (nat_lt c) xs) (list_all (nat_lt c) ys) h k
 
 -- a byte above another one is above each lower one
 above_lower : (c d b : ℕ) → c ≤ d → nat_lt d b ≡ true → nat_lt c b ≡ true
@@ -71,7 +64,7 @@ digit_above d = grind (arith, nat_tests)
 
 -- and so is a text of one digit
 one_digit_above : (d : ℕ) → AreAbove 32 ((48 + d) ∷ [])
-one_digit_above d = both_hold (nat_lt 32 (48 + d)) true (digit_above d) refl
+one_digit_above d = and_from (nat_lt 32 (48 + d)) true (digit_above d) refl
 
 -- the digits of a number are above the space
 pub AreAbove-decimal : (n : ℕ) → n < 2 ^ 64 → AreAbove 32 (decimal n)
@@ -94,8 +87,8 @@ AreAbove-encode_lower (b ∷ bytes) h =
     let high = slice_index lower_digits (b / 16) in
     let low = slice_index lower_digits (b % 16) in
     let small : b < 256 = h.0 in
-    both_hold (nat_lt 32 high) (nat_lt 32 low && list_all (nat_lt 32) (encode_lower bytes)) (lower_digit_above (b / 16) (omega arith))
-    (both_hold (nat_lt 32 low) (list_all (nat_lt 32) (encode_lower bytes)) (lower_digit_above (b % 16) (omega arith)) (AreAbove-encode_lower bytes h.1))
+    and_from (nat_lt 32 high) (nat_lt 32 low && list_all (nat_lt 32) (encode_lower bytes)) (lower_digit_above (b / 16) (omega arith))
+    (and_from (nat_lt 32 low) (list_all (nat_lt 32) (encode_lower bytes)) (lower_digit_above (b % 16) (omega arith)) (AreAbove-encode_lower bytes h.1))
 
 -- a visible byte is above the space
 visible_above : (b : ℕ) → IsVisible b → nat_lt 32 b ≡ true

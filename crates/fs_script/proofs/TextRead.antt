@@ -5,6 +5,7 @@ use Rattle.std.specs.List.{AllByRecursion, flat_map}
 use Rattle.std.specs.Fmt.{decimal}
 use Rattle.std.specs.Result.{result_unwrap_or}
 use Rattle.std.proofs.lemmas.Fmt.{decimal_is_IsNumeral}
+use Rattle.std.proofs.lemmas.List.{append_cancel_left}
 use Rattle.hex.specs.Hex.{encode_lower, IsBytes}
 use Rattle.hex.specs.declared.error.FromHexError.{FromHexError}
 use Rattle.hex.proofs.HexLemmas.{decode_of-encode_lower}
@@ -244,16 +245,11 @@ read-text R more h =
 pub same_report : (R S : Report) → IsPrintable R → IsPrintable S → text R ≡ text S → R ≡ S
 same_report R S r s e = sym (read-text R [] r) ∙ (ap (λ bytes. read (bytes ++ [])) e ∙ read-text S [] s)
 
--- what adds nothing to a text is empty
-empty_rest : (xs more : List ℕ) → xs ++ more ≡ xs → more ≡ []
-empty_rest [] more e = e
-empty_rest (x ∷ xs) more e = empty_rest xs more (cc)
-
 -- no text of a printable report goes on after another one
 pub nothing_more : (R S : Report) (more : List ℕ) → IsPrintable R → IsPrintable S → text R ++ more ≡ text S → more ≡ []
 nothing_more R S more r s e =
     let same : R ≡ S = sym (read-text R more r) ∙ (ap (λ bytes. read bytes) (e ∙ sym (append-nil (text S))) ∙ read-text S [] s) in
-    empty_rest (text R) more (e ∙ ap (λ (T : Report). text T) (sym same))
+    append_cancel_left (text R) more [] (e ∙ ap (λ (T : Report). text T) (sym same) ∙ sym (append-nil (text R)))
 
 -- what stands before the line `end`
 pub text_ends : (R : Report) → (lines : List ℕ) × (text R ≡ lines ++ codes "end" ++ line_feed)

@@ -1,5 +1,5 @@
 -- Which answer a line may have, for a journal of its path: the table of answers.
-use Rattle.std.specs.Prelude.{◌≡◌, ℕ, zero, suc, ◌+◌, ◌≤◌, ◌<◌, nat_le, Bool, false, not, IsTrue, List, length, take, Option, Some, None, IsSome, IsNone, IfSome, ◌⊎◌, is_some, MatchBool, if◌then◌else◌}
+use Rattle.std.specs.Prelude.{◌≡◌, ℕ, zero, suc, ◌+◌, ◌≤◌, ◌<◌, nat_le, Bool, not, IsTrue, List, length, take, Option, Some, None, IsSome, IsNone, IfSome, ◌⊎◌, MatchBool, if◌then◌else◌}
 use Rattle.std.specs.List.{slice_get, AllByRecursion, Contains}
 use Rattle.md5.specs.Md5.{md5}
 use Rattle.fs_types.specs.declared.answer.Answer.{Answer}

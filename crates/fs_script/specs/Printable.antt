@@ -1,5 +1,5 @@
--- Which reports are printable: their numbers, bytes and paths have the sizes of those that the program makes.
-use Rattle.std.specs.Prelude.{◌≡◌, ℕ, ◌^◌, ◌<◌, ◌≤◌, List, ◌++◌, [], length, codes}
+-- Which reports are printable: each number fits the type that holds it, each byte is one, and each path is a path.
+use Rattle.std.specs.Prelude.{◌≡◌, ℕ, ◌^◌, ◌<◌, ◌≤◌, List, length}
 use Rattle.std.specs.List.{AllByRecursion}
 use Rattle.fs_types.specs.declared.answer.Answer.{Answer}
 use Rattle.fs_types.specs.declared.answer.Answer.TheVariants as answers
@@ -7,9 +7,9 @@ use Rattle.fs_types.specs.declared.answer.Body.{Body}
 use Rattle.fs_types.specs.declared.answer.Body.TheVariants as bodies
 use Rattle.fs_types.specs.declared.file_state.FileState.{FileState}
 use Rattle.fs_types.specs.declared.file_state.FileState.TheVariants as states
+use Rattle.fs_types.specs.declared.limits.TheConstants.{HEX_LIMIT}
 use Rattle.fs_types.specs.PathText.{IsPath}
 use Rattle.fs_script.specs.Report.{Report}
-use Rattle.fs_script.specs.Text.{text, line_feed}
 
 -- each is the number of a byte
 abbrev pub AreBytes : List ℕ → Type 0
@@ -20,9 +20,9 @@ pub record IsDigest (digest : List ℕ) : Type 0 where
   pub size : length digest ≡ 16
   pub bytes : AreBytes digest
 
--- at most 32 bytes
+-- as many bytes as are printed as they are
 pub record AreShownBytes (shown : List ℕ) : Type 0 where
-  pub size : length shown ≤ 32
+  pub size : length shown ≤ HEX_LIMIT
   pub bytes : AreBytes shown
 
 -- a body is bytes that are shown, or a digest
@@ -78,15 +78,3 @@ pub record IsPrintable (R : Report) : Type 0 where
   pub journals : AllByRecursion IsPrintableJournal R.journals
   pub files : AllByRecursion IsPrintableFile R.files
   pub as_many : length R.journals ≡ length R.files
-
--- two printable reports with one text are one report
-abbrev pub OneReport : Type 0
-OneReport = (R S : Report) → IsPrintable R → IsPrintable S → text R ≡ text S → R ≡ S
-
--- each text ends with a line `end`
-abbrev pub TextEnds : Type 0
-TextEnds = (R : Report) → (lines : List ℕ) × (text R ≡ lines ++ codes "end" ++ line_feed)
-
--- no text of a printable report goes on after another one
-abbrev pub TextIsWhole : Type 0
-TextIsWhole = (R S : Report) (more : List ℕ) → IsPrintable R → IsPrintable S → text R ++ more ≡ text S → more ≡ []

@@ -1,10 +1,11 @@
 -- Lists of answers stay in the order of their lines.
 use Rattle.std.proofs.Common.{◌≡◌, ℕ, suc, ◌<◌, ◌≤◌, ◌==◌, List, [], ◌∷◌, ◌++◌, Some, None, refl, sym, ap, ◌∙◌, subst, if◌then◌else◌, arith, ◌⊎◌, inl, inr, All}
 use Rattle.std.proofs.lemmas.Bool.Decides.{nat_tests}
-use Rattle.std.proofs.lemmas.List.Elements.{All-head, All-tail}
+use Rattle.std.specs.List.{AllByRecursion}
+use Rattle.std.proofs.lemmas.List.Elements.{All-head, All-tail, All-from_recursion}
 use Rattle.fs_types.specs.AnswerList.{answer_at, put_answer, answers_given, IsRising, IsRisingFrom}
 use Rattle.fs_types.specs.declared.answer.Answer.{Answer}
-use Rattle.fs_types.proofs.Tables.{answer_at-same, answer_at-other, put_answer-before, put_answer-over, put_answer-after}
+use Rattle.fs_types.proofs.Tables.{answer_at-same, answer_at-other, put_answer-before, put_answer-over, put_answer-after, IsRisingFrom-lower}
 
 -- how a line stands to another
 pub cases_line : (m n : ℕ) → (m < n) ⊎ ((m ≡ n) ⊎ (n < m))
@@ -62,6 +63,20 @@ pub answer_at-rising_below : (xs : List (ℕ × Answer)) (k m : ℕ) → IsRisin
 answer_at-rising_below [] k m h l = refl
 answer_at-rising_below ((i, b) ∷ xs) k m h l =
     answer_at-other i m b xs (omega (arith, h.0)) ∙ answer_at-rising_below xs (suc i) m h.1 (omega (arith, h.0))
+
+-- in a rising list each line has its answer
+pub answer_at-each : (xs : List (ℕ × Answer)) (k : ℕ) → IsRisingFrom k xs → All (λ x. answer_at xs x.0 ≡ Some x.1) xs
+answer_at-each xs k rising = All-from_recursion (λ (x : ℕ × Answer). answer_at xs x.0 ≡ Some x.1) xs (by_recursion xs k rising)
+  where
+    past : (n : ℕ) (a : Answer) (ys zs : List (ℕ × Answer)) → IsRisingFrom (suc n) zs → AllByRecursion (λ x. answer_at ys x.0 ≡ Some x.1) zs
+        → AllByRecursion (λ x. answer_at ((n, a) ∷ ys) x.0 ≡ Some x.1) zs
+    past n a ys [] above each = tt
+    past n a ys ((m, b) ∷ zs) above each =
+        (answer_at-other n m a ys (omega (arith, above.0)) ∙ each.0, past n a ys zs (IsRisingFrom-lower zs (suc n) (suc m) (omega (arith, above.0)) above.1) each.1)
+
+    by_recursion : (ys : List (ℕ × Answer)) (k : ℕ) → IsRisingFrom k ys → AllByRecursion (λ x. answer_at ys x.0 ≡ Some x.1) ys
+    by_recursion [] k rising = tt
+    by_recursion ((n, a) ∷ ys) k rising = (answer_at-same n n a ys refl, past n a ys ys rising.1 (by_recursion ys (suc n) rising.1))
 
 -- the tails of two lists that begin alike answer alike
 tails_alike : (i : ℕ) (a b : Answer) (xs ys : List (ℕ × Answer)) → IsRisingFrom (suc i) xs → IsRisingFrom (suc i) ys → ((n : ℕ) → answer_at ((i, a) ∷ xs) n ≡ answer_at ((i, b) ∷ ys) n) → (n : ℕ) → answer_at xs n ≡ answer_at ys n

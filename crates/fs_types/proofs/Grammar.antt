@@ -1,6 +1,6 @@
 -- Paths and names in other words.
-use Rattle.std.proofs.Common.{◌≡◌, ℕ, ◌+◌, ◌<◌, ◌≤◌, ◌==◌, nat_eq, nat_le, Bool, true, false, ◌&&◌, not, List, [], ◌∷◌, ◌++◌, length, drop, refl, sym, ap, ◌∙◌, subst, arith, All, codes}
-use Rattle.std.proofs.lemmas.Bool.{leb-true}
+use Rattle.std.proofs.Common.{◌≡◌, ℕ, ◌+◌, ◌<◌, ◌≤◌, ◌==◌, nat_eq, nat_le, true, false, ◌&&◌, not, List, [], ◌∷◌, ◌++◌, length, drop, refl, sym, ap, ◌∙◌, subst, arith, All, codes}
+use Rattle.std.proofs.lemmas.Bool.{leb-true, and_parts, and_from}
 use Rattle.std.proofs.lemmas.Bool.Decides.{nat_tests, Decides-eqb}
 use Rattle.std.proofs.lemmas.Grind.{common_steps}
 use Rattle.std.proofs.lemmas.Slice.Eq.{starts_is}
@@ -14,15 +14,6 @@ use Rattle.fs_types.specs.PathText.{IsPath, is_component, is_name_character, bet
 use Rattle.fs_types.specs.NameText.{IsName, is_name_part}
 use Rattle.fs_types.specs.PathLaws.{IsMountedText, IsVisible}
 
--- tests that are joined by `&&`
-both : (a b : Bool) → (a && b) ≡ true → (a ≡ true) × (b ≡ true)
-both true b h = (refl, h)
-both false b h = cc
-
--- two tests that hold, joined
-and_two : (a b : Bool) → a ≡ true → b ≡ true → (a && b) ≡ true
-and_two a b h k = grind arith
-
 -- a length that is not 0
 some_from_test : (n : ℕ) → not (n == 0) ≡ true → 1 ≤ n
 some_from_test n h = grind (arith, nat_tests)
@@ -31,8 +22,8 @@ some_from_test n h = grind (arith, nat_tests)
 path_tests : (bytes : List ℕ) → IsPath bytes →
     (length bytes ≤ 255) × (bytes ≡ mount_point ++ drop 9 bytes) × (list_all is_component (between_slashes (drop 9 bytes)) ≡ true)
 path_tests bytes h =
-    let outer = both (nat_le (length bytes) 255 && starts_with nat_eq bytes mount_point) (list_all is_component (between_slashes (drop 9 bytes))) h in
-    let inner = both (nat_le (length bytes) 255) (starts_with nat_eq bytes mount_point) outer.0 in
+    let outer = and_parts (nat_le (length bytes) 255 && starts_with nat_eq bytes mount_point) (list_all is_component (between_slashes (drop 9 bytes))) h in
+    let inner = and_parts (nat_le (length bytes) 255) (starts_with nat_eq bytes mount_point) outer.0 in
     (leb-true (length bytes) 255 inner.0, (starts_is Decides-eqb bytes mount_point (starts_with nat_eq bytes mount_point) refl).0 inner.1, outer.1)
 
 -- a text whose parts are components isn't empty
@@ -66,9 +57,9 @@ component_characters part h =
     let some = not (length part == 0) in
     let characters = list_all is_name_character part in
     let not_one = not (bytes_eq part (codes ".")) in
-    let first = both (some && characters && not_one) (not (bytes_eq part (codes ".."))) h in
-    let second = both (some && characters) not_one first.0 in
-    AllPass-from_list_all is_name_character part (both some characters second.0).1
+    let first = and_parts (some && characters && not_one) (not (bytes_eq part (codes ".."))) h in
+    let second = and_parts (some && characters) not_one first.0 in
+    AllPass-from_list_all is_name_character part (and_parts some characters second.0).1
 
 -- the characters of a component are those of names
 component_parts : (part : List ℕ) → is_component part ≡ true → list_all is_name_part part ≡ true
@@ -78,11 +69,11 @@ component_parts part h =
 -- components with slashes between them are text of a name
 joined_parts : (parts : List (List ℕ)) → list_all is_component parts ≡ true → list_all is_name_part (join_with_byte 47 parts) ≡ true
 joined_parts [] h = refl
-joined_parts (x ∷ []) h = component_parts x (both (is_component x) true h).0
+joined_parts (x ∷ []) h = component_parts x (and_parts (is_component x) true h).0
 joined_parts (x ∷ y ∷ parts) h =
-    let tests = both (is_component x) (list_all is_component (y ∷ parts)) h in
+    let tests = and_parts (is_component x) (list_all is_component (y ∷ parts)) h in
     list_all-append is_name_part x (47 ∷ join_with_byte 47 (y ∷ parts))
-    ∙ and_two (list_all is_name_part x) (list_all is_name_part (join_with_byte 47 (y ∷ parts))) (component_parts x tests.0) (joined_parts (y ∷ parts) tests.1)
+    ∙ and_from (list_all is_name_part x) (list_all is_name_part (join_with_byte 47 (y ∷ parts))) (component_parts x tests.0) (joined_parts (y ∷ parts) tests.1)
 
 -- the tests of a name
 name_from_tests : (bytes : List ℕ) → 1 ≤ length bytes → length bytes ≤ 255 → starts_with nat_eq bytes (codes "-") ≡ false → list_all is_name_part bytes ≡ true → IsName bytes
@@ -94,9 +85,9 @@ name_tests bytes h =
     let some = not (length bytes == 0) in
     let short = nat_le (length bytes) 255 in
     let first = not (starts_with nat_eq bytes (codes "-")) in
-    let outer = both (some && short && first) (list_all is_name_part bytes) h in
-    let middle = both (some && short) first outer.0 in
-    let inner = both some short middle.0 in
+    let outer = and_parts (some && short && first) (list_all is_name_part bytes) h in
+    let middle = and_parts (some && short) first outer.0 in
+    let inner = and_parts some short middle.0 in
     (some_from_test (length bytes) inner.0, leb-true (length bytes) 255 inner.1, outer.1)
 
 -- a text after the mount point, with the characters of names, is a name
@@ -138,9 +129,9 @@ mounted_from_path bytes h =
 split_joined : (parts : List (List ℕ)) → 0 < length parts → list_all is_component parts ≡ true → between_slashes (join_with_byte 47 parts) ≡ parts
 split_joined [] l h = absurd (omega arith)
 split_joined (x ∷ []) l h =
-    slice_split_none (λ b. b == 47) x (All-weaker (λ b. is_name_character b ≡ true) (λ b. (b == 47) ≡ false) no_slash x (component_characters x (both (is_component x) true h).0))
+    slice_split_none (λ b. b == 47) x (All-weaker (λ b. is_name_character b ≡ true) (λ b. (b == 47) ≡ false) no_slash x (component_characters x (and_parts (is_component x) true h).0))
 split_joined (x ∷ y ∷ parts) l h =
-    let tests = both (is_component x) (list_all is_component (y ∷ parts)) h in
+    let tests = and_parts (is_component x) (list_all is_component (y ∷ parts)) h in
     slice_split_at (λ b. b == 47) x 47 (join_with_byte 47 (y ∷ parts)) (All-weaker (λ b. is_name_character b ≡ true) (λ b. (b == 47) ≡ false) no_slash x (component_characters x tests.0)) refl
     ∙ ap (λ more. x ∷ more) (split_joined (y ∷ parts) (omega arith) tests.1)
 
@@ -148,7 +139,7 @@ split_joined (x ∷ y ∷ parts) l h =
 mounted_path : (parts : List (List ℕ)) → 0 < length parts → list_all is_component parts ≡ true → length (mount_point ++ join_with_byte 47 parts) ≤ 255 → IsPath (mount_point ++ join_with_byte 47 parts)
 mounted_path parts l h s =
     let split = split_joined parts l h in
-    and_two (nat_le (length (mount_point ++ join_with_byte 47 parts)) 255 && true) (list_all is_component (between_slashes (join_with_byte 47 parts)))
+    and_from (nat_le (length (mount_point ++ join_with_byte 47 parts)) 255 && true) (list_all is_component (between_slashes (join_with_byte 47 parts)))
     (grind (arith, nat_tests)) (ap (λ ps. list_all is_component ps) split ∙ h)
 
 -- and such a text of at most 255 bytes is a path

@@ -1,5 +1,7 @@
+pub mod CallerLemmas
 pub mod Tables
 pub mod Overwrites
+pub mod PlainFiles
 pub mod AnswerOrder
 pub mod Grammar
 mod Cases

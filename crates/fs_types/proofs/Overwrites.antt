@@ -1,9 +1,10 @@
 -- What stands at each place of a list after overwriting, cutting and showing it, and how long it is.
-use Rattle.std.proofs.Common.{◌≡◌, ℕ, zero, suc, ◌+◌, ◌-◌, ◌<◌, ◌≤◌, max, min, cond, ltb, leb, List, [], ◌∷◌, ◌++◌, length, take, drop, replicate, get_or, refl, ap, ◌∙◌, arith, inl, inr}
+use Rattle.std.proofs.Common.{◌≡◌, ℕ, zero, suc, ◌+◌, ◌-◌, ◌<◌, ◌≤◌, max, min, cond, ltb, leb, List, [], ◌∷◌, ◌++◌, length, take, drop, replicate, get_or, refl, ap, ◌∙◌, arith, inl, inr, All}
 use Rattle.std.specs.Prelude.{◌&&◌}
 use Rattle.std.proofs.lemmas.Bool.{cases_lt}
 use Rattle.std.proofs.lemmas.Bool.Decides.{nat_tests}
 use Rattle.std.proofs.lemmas.List.{length-append, length-take, length-take-le, length-drop, length-replicate, get_or_append_left, get_or-append_right, get_or-take, get_or-drop}
+use Rattle.std.proofs.lemmas.List.Elements.{All-append, All-take, All-drop, All-replicate}
 use Rattle.fs_types.specs.Overwrite.{extended, put, cut, shown}
 
 -- a place of blanks is a blank, also past their end
@@ -75,6 +76,24 @@ get_or-put blank xs off ys k =
         | inr past ↦ get_or-put_behind blank xs off ys k past ∙ grind (arith, nat_tests)
       ]
     ]
+
+-- what holds of the blank, and at each place of two lists, holds at each place after a put
+pub All-put : {X : Type 0} (P : X → Type 0) (blank : X) (xs : List X) (off : ℕ) (ys : List X)
+    → P blank → All P xs → All P ys → All P (put blank xs off ys)
+All-put P blank xs off [] of_blank of_xs of_ys = of_xs
+All-put P blank xs off (y ∷ ys) of_blank of_xs of_ys =
+    let blanks = replicate (off - length xs) blank in
+    let longer = All-append P xs blanks of_xs (All-replicate P (off - length xs) blank of_blank) in
+    let front = All-take P off (extended blank xs off) longer in
+    let rest = All-drop P (off + length (y ∷ ys)) xs of_xs in
+    All-append P (take off (extended blank xs off) ++ (y ∷ ys)) (drop (off + length (y ∷ ys)) xs)
+    (All-append P (take off (extended blank xs off)) (y ∷ ys) front of_ys) rest
+
+-- a list and an end that are within a bound are so after a put
+pub length-put-le : {X : Type 0} (blank : X) (xs : List X) (off : ℕ) (ys : List X) (n : ℕ)
+    → length xs ≤ n → off + length ys ≤ n → length (put blank xs off ys) ≤ n
+length-put-le blank xs off [] n list_within end_within = list_within
+length-put-le blank xs off (y ∷ ys) n list_within end_within = omega (arith, length-put blank xs off (y ∷ ys) (omega arith))
 
 pub length-cut : {X : Type 0} (blank : X) (xs : List X) (n : ℕ) → length (cut blank xs n) ≡ n
 length-cut blank xs n = length-front blank xs n

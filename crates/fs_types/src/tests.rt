@@ -84,7 +84,7 @@ fn answers_are_found_by_their_lines(rt: HostRuntime) -> Result<(), Fail> {
 
 #[test]
 fn short_bytes_hold_up_to_32(rt: HostRuntime) {
-    let texts = [b"".as_slice(), b"abc".as_slice(), &[7; ShortBytes::LIMIT]];
+    let texts = [b"".as_slice(), b"abc".as_slice(), &[7; HEX_LIMIT]];
     for text in texts {
         assert_eq!(rt; ShortBytes::new(text).as_bytes(), text);
     }

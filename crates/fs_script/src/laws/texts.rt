@@ -1,14 +1,20 @@
-//! The text of a report says what the report is.
+//! The text of a legal report says what the report is.
 
-ghost use Rattle.fs_script.specs.Printable.{OneReport, TextEnds, TextIsWhole};
+ghost use Rattle.fs_script.specs.Laws.{LegalReportsArePrintable, OneLegalReport, TextEnds, TextIsWhole};
 
-/// Two reports with one text are one report.
-pub fn one_report()
-    ensures { OneReport }
+/// Each number of a legal report fits the type that holds it, each byte is one, and each path is a
+/// path.
+pub fn legal_reports_are_printable()
+    ensures { LegalReportsArePrintable }
 {}
 
-/// A text ends with a line `end`, and goes on after no other text. So a text that was cut off is no
-/// text of a report.
+/// Two legal reports of one job with one text are one report.
+pub fn one_legal_report()
+    ensures { OneLegalReport }
+{}
+
+/// A text ends with a line `end`, and goes on after that of no other legal report of the job. So a
+/// text that was cut off is no text of a legal report.
 pub fn text_is_whole()
     ensures ends { TextEnds }
     ensures alone { TextIsWhole }

@@ -1,0 +1,37 @@
+-- The lines of a legal journal: operations of the job, no two of them one, and so no more than the job has lines.
+use Rattle.std.proofs.Common.{◌≡◌, ℕ, suc, ◌+◌, ◌<◌, ◌≤◌, ◌==◌, List, length, get_or, Option, Some, None, ap, ◌∙◌, refl, All, arith}
+use Rattle.std.specs.List.{IsDistinct}
+use Rattle.std.proofs.lemmas.Bool.{eqb-true, ne_eqb}
+use Rattle.std.proofs.lemmas.Option.{none-some, slice_get-get_or}
+use Rattle.std.proofs.lemmas.List.Elements.{All-contains}
+use Rattle.std.proofs.lemmas.Map.Keys.{IsDistinct-from_apart}
+use Rattle.std.proofs.lemmas.Map.Steps.{length-le_from_distinct_below}
+use Rattle.std.proofs.lemmas.Map.Views.{Contains-from_any}
+use Rattle.fs_script.specs.declared.line.OpLine.{OpLine}
+use Rattle.fs_script.specs.Job.{Job, op_at}
+use Rattle.fs_script.specs.Pending.{Answering}
+use Rattle.fs_script.specs.Journal.{commit_in, IsLegalJournal}
+use Rattle.fs_script.proofs.Jobs.{op_at-within}
+
+module _ (s : Job) (A : Answering) (p : List ℕ) where
+  commit_in-within : (n v : ℕ) (o : Option OpLine) → op_at s n ≡ o → commit_in s A p n o ≡ Some v → n < 2 + length s.lines
+  commit_in-within n v None is commits = absurd (none-some v commits)
+  commit_in-within n v (Some o) is commits = (op_at-within s n o is).1
+
+  module _ (J : List ℕ) (legal : IsLegalJournal s A p J) where
+    -- each is a line of the job
+    pub journal-within : All (λ n. n < 2 + length s.lines) J
+    journal-within k d below =
+        let entry = legal.entries k (get_or J k d) (slice_get-get_or J k d below) in
+        commit_in-within (get_or J k d) (suc k) (op_at s (get_or J k d)) refl entry.committed
+
+    IsDistinct-journal : IsDistinct ◌==◌ J
+    IsDistinct-journal = IsDistinct-from_apart ◌==◌ J (λ i k d less below. ne_eqb (get_or J i d) (get_or J k d) (λ same.
+        let entry = legal.entries k (get_or J k d) (slice_get-get_or J k d below) in
+        let one = entry.once i (slice_get-get_or J i d (omega arith) ∙ ap Some same) in
+        omega arith))
+
+    -- so there are no more versions than lines of the script
+    pub length-journal : length J ≤ 2 + length s.lines
+    length-journal = length-le_from_distinct_below J (2 + length s.lines) IsDistinct-journal
+        (λ n has. All-contains (λ m. m < 2 + length s.lines) J n journal-within (Contains-from_any eqb-true n J has))

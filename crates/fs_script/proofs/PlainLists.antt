@@ -1,0 +1,161 @@
+-- Plain lists, ranges and options, in the forms that the definitions of this crate have: `AllByRecursion` and
+-- `slice_get`, where std's lemmas have `All` and `get_or`.
+use Rattle.std.proofs.Common.{◌≡◌, ℕ, zero, suc, ◌+◌, ◌≤◌, ◌<◌, Bool, true, false, List, [], ◌∷◌, ◌++◌, map, length, take, get_or, slice_get, count_by, cond, Option, Some, None, IsSome, is_some, ◌⊎◌, inl, inr, true≢false, refl, sym, ap, ◌∙◌, subst, subst₂, take-take, All, arith}
+use Rattle.std.specs.List.{AllByRecursion, filter, range_with_len}
+use Rattle.std.proofs.lemmas.Bool.{cond_both, cond-true, cases_eq, cases_order}
+use Rattle.std.proofs.lemmas.Option.{none-some, same_Some, slice_get_past, slice_get_within, slice_get-get_or, get_or_from_slice_get}
+use Rattle.std.proofs.lemmas.List.{length-map, length_push, get_or-map, get_or_append_left}
+use Rattle.std.proofs.lemmas.List.Elements.{All-from_recursion, recursion_from_All, All-take, All-push, All-filter, filter_passes}
+use Rattle.std.proofs.lemmas.List.FromFn.{length-range_with_len, get_or-range_with_len}
+use Rattle.std.proofs.lemmas.List.Kept.{AllPairs-filter}
+use Rattle.std.proofs.lemmas.List.Sums.{sum_by-take-le}
+
+-- ---- options
+
+pub some_of : {X : Type 0} (x : Option X) → IsSome x → (b : X) × (x ≡ Some b)
+some_of None h = absurd (true≢false (sym h))
+some_of (Some b) h = (b, refl)
+
+pub none_from-is_some : {X : Type 0} (x : Option X) → is_some x ≡ false → x ≡ None
+none_from-is_some None h = refl
+none_from-is_some (Some y) h = absurd (true≢false h)
+
+-- ---- what holds of each element
+
+module _ {X : Type 0} (P : X → Type 0) where
+  -- at each place
+  pub All-at : (xs : List X) (k : ℕ) (x : X) → All P xs → slice_get xs k ≡ Some x → P x
+  All-at xs k x all at = subst P (get_or_from_slice_get xs k x x at) (all k x (slice_get_within xs k x at))
+
+  pub AllByRecursion-at : (xs : List X) (k : ℕ) (x : X) → AllByRecursion P xs → slice_get xs k ≡ Some x → P x
+  AllByRecursion-at xs k x all at = All-at xs k x (All-from_recursion P xs all) at
+
+  pub AllByRecursion-from_get : (xs : List X) → ((k : ℕ) (x : X) → slice_get xs k ≡ Some x → P x) → AllByRecursion P xs
+  AllByRecursion-from_get xs each = recursion_from_All P xs (λ k d below. each k (get_or xs k d) (slice_get-get_or xs k d below))
+
+  -- of the first elements
+  pub AllByRecursion-take : (n : ℕ) (xs : List X) → AllByRecursion P xs → AllByRecursion P (take n xs)
+  AllByRecursion-take n xs all = recursion_from_All P (take n xs) (All-take P n xs (All-from_recursion P xs all))
+
+  -- and of one more
+  pub AllByRecursion-push : (xs : List X) (x : X) → AllByRecursion P xs → P x → AllByRecursion P (xs ++ x ∷ [])
+  AllByRecursion-push xs x all last = recursion_from_All P (xs ++ x ∷ []) (All-push P xs x (All-from_recursion P xs all) last)
+
+  -- of what a function gives at each element
+  pub All-from_map : {Y : Type 0} (f : Y → X) (ys : List Y) → All P (map f ys) → All (λ y. P (f y)) ys
+  All-from_map f ys all k d below = subst P (get_or-map f ys k d (f d) below) (all k (f d) (omega (arith, length-map ys f)))
+
+-- ---- one more element at the end
+
+-- the places that were there keep their elements
+pub slice_get-push : {X : Type 0} (xs : List X) (y : X) (k : ℕ) (x : X)
+    → slice_get xs k ≡ Some x → slice_get (xs ++ y ∷ []) k ≡ Some x
+slice_get-push xs y k x at =
+    let within = slice_get_within xs k x at in
+    let same = get_or_append_left xs (y ∷ []) x k within ∙ get_or_from_slice_get xs k x x at in
+    slice_get-get_or (xs ++ y ∷ []) k x (omega (arith, length_push xs y)) ∙ ap Some same
+
+-- the new one stands at the end
+pub slice_get-push_last : {X : Type 0} (xs : List X) (y : X) → slice_get (xs ++ y ∷ []) (length xs) ≡ Some y
+slice_get-push_last [] y = refl
+slice_get-push_last (x ∷ xs) y = slice_get-push_last xs y
+
+-- an element of the longer list is one of the shorter, or the new one
+pub slice_get-push_cases : {X : Type 0} (xs : List X) (y : X) (k : ℕ) (x : X) → slice_get (xs ++ y ∷ []) k ≡ Some x
+    → (slice_get xs k ≡ Some x) ⊎ ((k ≡ length xs) × (x ≡ y))
+slice_get-push_cases [] y zero x at = inr (refl, sym (same_Some y x at))
+slice_get-push_cases [] y (suc k) x at = absurd (none-some x at)
+slice_get-push_cases (z ∷ xs) y zero x at = inl at
+slice_get-push_cases (z ∷ xs) y (suc k) x at =
+    elim (slice_get-push_cases xs y k x at) [ inl old ↦ inl old | inr new ↦ inr (ap suc new.0, new.1) ]
+
+-- below the end it is one of the shorter
+pub slice_get-push_below : {X : Type 0} (xs : List X) (y : X) (k : ℕ) (x : X) → k < length xs
+    → slice_get (xs ++ y ∷ []) k ≡ Some x → slice_get xs k ≡ Some x
+slice_get-push_below xs y k x below at =
+    elim (slice_get-push_cases xs y k x at) [ inl old ↦ old | inr new ↦ absurd (omega (arith, new.0)) ]
+
+-- ---- how many pass a test
+
+-- a longer front has at least as many
+pub count_by-take-rises : {X : Type 0} (p : X → Bool) (xs : List X) (a b : ℕ) → a ≤ b
+    → count_by p (take a xs) ≤ count_by p (take b xs)
+count_by-take-rises p xs a b le =
+    subst (λ ys. count_by p ys ≤ count_by p (take b xs)) (take-take a b xs le) (sum_by-take-le (λ x. cond (p x) 1 0) (take b xs) a)
+
+-- ---- ranges
+
+pub range-push : (a k : ℕ) → range_with_len a k ++ (a + k) ∷ [] ≡ range_with_len a (suc k)
+range-push a zero = ap (λ n. n ∷ []) (omega arith)
+range-push a (suc k) =
+    let last : a + suc k ≡ a + 1 + k = omega arith in
+    ap (λ (ns : List ℕ). a ∷ ns) (ap (λ n. range_with_len (a + 1) k ++ n ∷ []) last ∙ range-push (a + 1) k)
+
+pub slice_get-range : (a k i : ℕ) → i < k → slice_get (range_with_len a k) i ≡ Some (a + i)
+slice_get-range a k i lt =
+    slice_get-get_or (range_with_len a k) i 0 (omega (arith, length-range_with_len a k)) ∙ ap Some (get_or-range_with_len a k i 0 lt)
+
+pub slice_get-range_past : (a k i : ℕ) → k ≤ i → slice_get (range_with_len a k) i ≡ None
+slice_get-range_past a k i le = slice_get_past (range_with_len a k) i (omega (arith, length-range_with_len a k))
+
+-- where each number of a range passes, all of them are kept
+pub filter-range_all : (P : ℕ → Bool) (a k : ℕ) → ((i : ℕ) → i < k → P (a + i) ≡ true)
+    → filter P (range_with_len a k) ≡ range_with_len a k
+filter-range_all P a zero pass = refl
+filter-range_all P a (suc k) pass =
+    let first : P a ≡ true = ap P (omega arith) ∙ pass 0 (omega arith) in
+    let rest = filter-range_all P (a + 1) k (λ i lt. ap P (omega arith) ∙ pass (suc i) (omega arith)) in
+    rw first (ap (λ (ns : List ℕ). a ∷ ns) rest)
+
+-- ---- the numbers of a range that pass a test
+
+module _ (P : ℕ → Bool) (a len : ℕ) where
+  -- each passes, and is at least the first number
+  pub passes : (k n : ℕ) → slice_get (filter P (range_with_len a len)) k ≡ Some n → (P n ≡ true) × (a ≤ n)
+  passes k n at =
+      let range = range_with_len a len in
+      let size = length-range_with_len a len in
+      let from = All-filter P (λ m. a ≤ m) range (λ i d below. omega (arith, get_or-range_with_len a len i d (omega arith))) in
+      (All-at (λ m. P m ≡ true) (filter P range) k n (filter_passes P range) at, All-at (λ m. a ≤ m) (filter P range) k n from at)
+
+  -- they rise
+  pub passing-rise : (i k m n : ℕ) → i < k → slice_get (filter P (range_with_len a len)) i ≡ Some m
+      → slice_get (filter P (range_with_len a len)) k ≡ Some n → m < n
+  passing-rise i k m n before at at' =
+      let range = range_with_len a len in
+      let kept = filter P range in
+      let rises = λ (i j d : ℕ) (less : i < j) (below : j < length range).
+      let size = length-range_with_len a len in
+      let first = get_or-range_with_len a len i d (omega arith) in
+      let second = get_or-range_with_len a len j d (omega arith) in
+      let apart : get_or range i d < get_or range j d = omega arith in
+      apart in
+      let pairs = AllPairs-filter (λ x y. x < y) P range rises in
+      let less = pairs i k m before (slice_get_within kept k n at') in
+      subst₂ (λ x y. x < y) (get_or_from_slice_get kept i m m at) (get_or_from_slice_get kept k n m at') less
+
+  -- no two of them are one
+  pub passing-places : (i k n : ℕ) → slice_get (filter P (range_with_len a len)) i ≡ Some n
+      → slice_get (filter P (range_with_len a len)) k ≡ Some n → i ≡ k
+  passing-places i k n at at' = elim (cases_order i k) [
+    | inl same ↦ same
+    | inr other ↦ elim other [
+      | inl less ↦ let rises = passing-rise i k n n less at at' in absurd (omega arith)
+      | inr more ↦ let rises = passing-rise k i n n more at' at in absurd (omega arith)
+    ]
+  ]
+
+-- each number of the range that passes has a place
+pub passing-place : (P : ℕ → Bool) (a len n : ℕ) → P n ≡ true → a ≤ n → n < a + len
+    → (k : ℕ) × (slice_get (filter P (range_with_len a len)) k ≡ Some n)
+passing-place P a zero n e from to = absurd (omega arith)
+passing-place P a (suc len) n e from to =
+    let rest = filter P (range_with_len (a + 1) len) in
+    elim (cases_eq a n) [
+      | inl is ↦
+          let kept = cond-true (P a) (a ∷ rest) rest (subst (λ m. P m ≡ true) (sym is) e) in
+          (0, ap (λ xs. slice_get xs 0) kept ∙ ap Some is)
+      | inr other ↦
+          let r = passing-place P (a + 1) len n e (omega arith) (omega arith) in
+          cond_both (P a) (a ∷ rest) rest (λ xs. (k : ℕ) × (slice_get xs k ≡ Some n)) (λ _. (suc r.0, r.1)) (λ _. r)
+    ]

@@ -1,0 +1,95 @@
+-- An answer that fits a legal journal is printable, where the bytes that it shows are compared.
+use Rattle.std.proofs.Common.{◌≡◌, ℕ, ◌^◌, ◌<◌, ◌≤◌, nat_le, List, length, drop, Option, Some, None, sym, subst, arith}
+use Rattle.std.specs.Int.{div_ceil}
+use Rattle.std.proofs.Math.Nat.{div-le_self}
+use Rattle.std.proofs.lemmas.Bool.{cond_both, leb-true}
+use Rattle.std.proofs.lemmas.List.Elements.{All-take, All-drop, recursion_from_All}
+use Rattle.md5.specs.Md5.{md5}
+use Rattle.fs_types.specs.declared.answer.Answer.{Answer}
+use Rattle.fs_types.specs.declared.answer.Answer.TheVariants as answers
+use Rattle.fs_types.specs.declared.answer.Body.{Body}
+use Rattle.fs_types.specs.declared.answer.Body.TheVariants as bodies
+use Rattle.fs_types.specs.declared.limits.TheConstants.{HEX_LIMIT}
+use Rattle.fs_types.specs.Overwrite.{shown}
+use Rattle.fs_types.specs.PlainFile.{File}
+use Rattle.fs_types.proofs.CallerLemmas.{length-shown}
+use Rattle.fs_script.specs.declared.line.OpLine.{OpLine}
+use Rattle.fs_script.specs.declared.line.Op.{Op}
+use Rattle.fs_script.specs.declared.line.Op.TheVariants as ops
+use Rattle.fs_script.specs.declared.line.Data.TheVariants.{Text}
+use Rattle.fs_script.specs.Job.{Job, op_at}
+use Rattle.fs_script.specs.Payload.{brought}
+use Rattle.fs_script.specs.Operations.{Range, asked}
+use Rattle.fs_script.specs.Pending.{Answering}
+use Rattle.fs_script.specs.Effect.{state}
+use Rattle.fs_script.specs.Fits.{AreTold, LineView, line_view, Accepts, ShowsRange, Fits, body_of}
+use Rattle.fs_script.specs.Journal.{IsLegalJournal}
+use Rattle.fs_script.specs.Grammar.{IsJob, IsOp}
+use Rattle.fs_script.specs.Printable.{IsPrintableBody, IsPrintableAnswer}
+use Rattle.fs_script.proofs.Digests.{IsDigest-md5}
+use Rattle.fs_script.proofs.FileBytes.{AllBytes, IsWithinLimits, IsWithinLimits-state}
+use Rattle.fs_script.proofs.Jobs.{IsOpLine-from_job}
+use Rattle.fs_script.proofs.JournalLines.{length-journal}
+
+-- ---- slots
+
+parts_are_few : (len chunk slots : ℕ) → len ≤ 2 ^ 24 → slots ≡ div_ceil len chunk → slots < 2 ^ 32
+parts_are_few len chunk slots short is = omega (arith, div-le_self len chunk)
+
+-- no write fills more slots than it has bytes
+slots_are_few : (w : LineView) (op : Op) (slots : ℕ) → IsOp op → Accepts w (brought op) slots → slots < 2 ^ 32
+slots_are_few w ops.Create slots is accepts = absurd accepts
+slots_are_few w (ops.Write off (Text bytes)) slots is accepts =
+    parts_are_few (length bytes) w.chunk slots is.1.1 accepts.2
+slots_are_few w ops.Sync slots is accepts = absurd accepts
+slots_are_few w (ops.Read off len) slots is accepts = absurd accepts
+
+-- ---- what a read shows
+
+-- bytes are shown as they are, or by their digest
+IsPrintableBody-body_of : (bytes : List ℕ) → AllBytes bytes → IsPrintableBody (body_of bytes)
+IsPrintableBody-body_of bytes are =
+    cond_both (nat_le (length bytes) HEX_LIMIT) (bodies.Hex bytes) (bodies.Md5 (md5 bytes)) IsPrintableBody
+    (λ short. record {
+      size = leb-true (length bytes) HEX_LIMIT short;
+      bytes = recursion_from_All (λ b. b < 256) bytes are;
+    })
+    (λ _. IsDigest-md5 bytes)
+
+-- a range of a file has no more bytes than the file
+range_is_printable : (compared : Type 0) (x : Option Range) (f : File ℕ) (n : ℕ) (body : Body)
+    → compared → IsWithinLimits f → ShowsRange compared x f n body → (n < 2 ^ 64) × IsPrintableBody body
+range_is_printable compared None f n body told within shows = absurd shows
+range_is_printable compared (Some x) None n body told within shows = absurd shows
+range_is_printable compared (Some x) (Some f) n body told within shows =
+    let range = shown f.cells x.off x.len in
+    let rest = All-drop (λ b. b < 256) x.off f.cells within.bytes in
+    let bytes = All-take (λ b. b < 256) x.len (drop x.off f.cells) rest in (
+      omega (arith, shows.count, length-shown f.cells x.off x.len),
+      subst IsPrintableBody (sym (shows.same told)) (IsPrintableBody-body_of range bytes),
+    )
+
+-- ---- each answer
+
+-- versions count the lines of a journal, which are no more than those of the job
+pub IsPrintableAnswer-fits : (told : List ℕ) (s : Job) (A : Answering) (J : List ℕ) (n : ℕ) (o : OpLine) (a : Answer)
+    → IsJob s → AreTold s told → IsLegalJournal s A o.path J → op_at s n ≡ Some o
+    → Fits told s A J n o a → IsPrintableAnswer a
+IsPrintableAnswer-fits told s A J n o a job all legal is fits = by a fits
+  where
+    few : length J < 2 ^ 17
+    few = omega (arith, length-journal s A o.path J legal, job.few)
+
+    by : (b : Answer) → Fits told s A J n o b → IsPrintableAnswer b
+    by (answers.Done v) fit = omega (arith, fit.version.length, few)
+    by (answers.Wrote slots) fit =
+        slots_are_few (line_view s A J n o) o.op slots (IsOpLine-from_job s n o job is).op fit.answer
+    by (answers.Shown v m body) fit =
+        let file = IsWithinLimits-state s job A J v in
+        let range = range_is_printable (AreTold s told) (asked o.op) (state s A J v) m body all file fit.answer in
+        record { version = omega (arith, fit.version.length, few); count = range.0; shown = range.1 }
+    by answers.BadF fit = tt
+    by (answers.Exists v) fit = omega (arith, fit.version.length, few)
+    by (answers.NoEnt v) fit = omega (arith, fit.version.length, few)
+    by (answers.ReadOnly v) fit = omega (arith, fit.version.length, few)
+    by answers.TooBig fit = tt
