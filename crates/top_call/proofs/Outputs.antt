@@ -11,8 +11,8 @@ use Rattle.fs_script.proofs.Reading.Scripts.{script_is_job}
 use Rattle.top_call.specs.declared.words.Command.{Command}
 use Rattle.top_call.specs.declared.words.Command.TheVariants.{Sim}
 use Rattle.top_call.specs.Words.{command_of}
-use Rattle.top_call.specs.Outcome.{IsSimAnswer, IsCommandAnswer, IsAnswer}
-use Rattle.top_call.specs.Top.{IsOutput, Writes}
+use Rattle.top_call.specs.CommandAnswer.{IsSimAnswer, IsCommandAnswer, IsAnswer}
+use Rattle.top_call.specs.Top.{IsOutput, WritesAnswer}
 
 -- what `sim` answers is what the words ask for
 IsAnswer-sim : (words : List (List ℕ)) (k : Command) (input : List ℕ) (status : Status) (text : List ℕ)
@@ -22,7 +22,7 @@ IsAnswer-sim words (Sim seed) input status text command answer =
 
 -- a status whose text was written whole, or cut off
 output : (words : List (List ℕ)) (k : Command) (input : List ℕ) (status result : Status) (text : List ℕ) (had held : Option (List ℕ))
-    → command_of words ≡ Some k → IsSimAnswer input status text → Writes status text result had held → IsOutput words input result had held
+    → command_of words ≡ Some k → IsSimAnswer input status text → WritesAnswer status text result had held → IsOutput words input result had held
 output words k input statuses.Done result text had held command answer (inl whole) =
     subst (λ (s : Status). IsOutput words input s had held) (sym whole.0)
     record { written = text; answer = IsAnswer-sim words k input statuses.Done text command answer; took = whole.1 }
@@ -39,11 +39,11 @@ output words k input status result text had held command answer (inr cut) =
 
 -- where it is told what the input holds
 pub IsOutput-sim : (words : List (List ℕ)) (k : Command) (told : Option (List ℕ)) (status result : Status) (text shown : List ℕ) (had held : Option (List ℕ))
-    → command_of words ≡ Some k → IfSome told (λ input. IsSimAnswer input status text) → shown ≡ text → Writes status shown result had held
+    → command_of words ≡ Some k → IfSome told (λ input. IsSimAnswer input status text) → shown ≡ text → WritesAnswer status shown result had held
     → IfSome told (λ input. IsOutput words input result had held)
 IsOutput-sim words k None status result text shown had held command answer same writes = tt
 IsOutput-sim words k (Some input) status result text shown had held command answer same writes =
-    output words k input status result text had held command answer (subst (λ (t : List ℕ). Writes status t result had held) same writes)
+    output words k input status result text had held command answer (subst (λ (t : List ℕ). WritesAnswer status t result had held) same writes)
 
 -- what is read as a job is not refused
 unrefused : (r : Result Job ScriptFault) (s : Job) → r ≡ Ok s → IsErr r → ⊥
@@ -62,7 +62,7 @@ reported input statuses.Memory text answer done refused = absurd answer
 
 -- an input that is refused is never reported on
 pub refused_unreported : (told : Option (List ℕ)) (status result : Status) (text shown : List ℕ) (had held : Option (List ℕ))
-    → IfSome told (λ input. IsSimAnswer input status text) → Writes status shown result had held
+    → IfSome told (λ input. IsSimAnswer input status text) → WritesAnswer status shown result had held
     → IfSome told (λ input. IsErr (job_of input) → result ≡ statuses.Done → ⊥)
 refused_unreported None status result text shown had held answer writes = tt
 refused_unreported (Some input) status result text shown had held answer (inl whole) = λ refused done. reported input status text answer (sym whole.0 ∙ done) refused

@@ -4,7 +4,7 @@ use Rattle.fs_types.specs.declared.status.Status.{Status}
 use Rattle.fs_types.specs.declared.status.Status.TheVariants as statuses
 use Rattle.top_call.specs.Told.{then_bytes}
 use Rattle.top_call.specs.Sink.{TookFront}
-use Rattle.top_call.specs.Outcome.{IsAnswer}
+use Rattle.top_call.specs.CommandAnswer.{IsAnswer}
 
 -- the text of a status was written, whole
 pub record IsWritten (words : List (List ℕ)) (input : List ℕ) (status : Status) (had held : Option (List ℕ)) : Type 0 where
@@ -29,5 +29,5 @@ IsOutput words input statuses.WriteFault had held = IsCutOff words input had hel
 IsOutput words input statuses.Memory had held = held ≡ had
 
 -- a text was written whole, and the status stands, or the output failed
-abbrev pub Writes : Status → List ℕ → Status → Option (List ℕ) → Option (List ℕ) → Type 0
-Writes status text result had held = ((result ≡ status) × (held ≡ then_bytes had text)) ⊎ ((result ≡ statuses.WriteFault) × TookFront text had held)
+abbrev pub WritesAnswer : Status → List ℕ → Status → Option (List ℕ) → Option (List ℕ) → Type 0
+WritesAnswer status text result had held = ((result ≡ status) × (held ≡ then_bytes had text)) ⊎ ((result ≡ statuses.WriteFault) × TookFront text had held)

@@ -5,8 +5,8 @@ ghost use Rattle.std.specs.String.{string_bytes};
 ghost use Rattle.fs_script.specs.Reading.{job_of};
 ghost use Rattle.top_call.specs.Faults.{HasRisen};
 ghost use Rattle.top_call.specs.Told.{IsAtEnd, then_bytes};
-ghost use Rattle.top_call.specs.Lines.{usage_line};
-ghost use Rattle.top_call.specs.Top.{IsOutput, Writes};
+ghost use Rattle.top_call.specs.UsageAndRefusals.{usage_line};
+ghost use Rattle.top_call.specs.Top.{IsOutput, WritesAnswer};
 ghost use Rattle.top_call.specs.Words.{command_of};
 
 use crate::outside::{Host, Sink, Source, WriteFailed, write_all};
@@ -18,10 +18,10 @@ use std::alloc::Global;
 use std::sync::Wait;
 use std::thread::Threads;
 
-// Writes the text of a status. Where the output fails the status is WriteFault.
+// WritesAnswer the text of a status. Where the output fails the status is WriteFault.
 fn write_answer<K: Sink>(out: &mut K, status: Status, text: &[u8]) -> Status
     requires { status ≢ Status.WriteFault }
-    ensures written { Writes status text.now result (K.held out.old) (K.held out.new) }
+    ensures written { WritesAnswer status text.now result (K.held out.old) (K.held out.new) }
     ensures risen { result ≡ Status.WriteFault → HasRisen (K.faults out.old) (K.faults out.new) }
     ensures calm { result ≢ Status.WriteFault → K.faults out.new ≡ K.faults out.old }
 {
