@@ -10,4 +10,5 @@ pub mod JobReport
 pub mod UsageAndRefusals
 pub mod Words
 pub mod CommandAnswer
+pub mod Output
 pub mod Top
