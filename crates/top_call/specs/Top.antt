@@ -49,8 +49,8 @@ pub record AsksForJob (words : List (List ℕ)) (told : Option (List ℕ)) : Typ
   pub job : Job
   pub script : IsScript bytes job
 
--- What a call for these words does, and with which status it ends, for the input and the output
--- before and after it, and the host before and after it.
+-- What holds of a call for these words: of the status that it ends with, and of the input, the
+-- output and the host before and after it.
 pub record IsTopCall {S K H : Type 0} (words : List (List ℕ)) (status : Status)
     (input : InputChange S) (out : OutputChange K) (old_host new_host : H) : Type 0 where
   -- The output took the report of the input's job, a refusal, the usage line, a part of one of
