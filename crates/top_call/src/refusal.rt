@@ -58,6 +58,3 @@ pub fn refusal_text(alloc: Global, fault: &ScriptFault) -> Result<Vec<u8>, Want>
     append_refusal(alloc, &mut out, fault)?;
     Ok(out)
 }
-
-#[cfg(test)]
-mod tests;
