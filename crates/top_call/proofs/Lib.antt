@@ -3,5 +3,5 @@ mod TextLemmas
 mod JobReports
 mod Runs
 mod WordsCases
-mod LinesCases
+mod UsageAndRefusalCases
 mod Outputs

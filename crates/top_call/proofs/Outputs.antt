@@ -1,69 +1,92 @@
--- What the output took, from what was answered and what was written of it.
-use Rattle.std.proofs.Common.{◌≡◌, inl, inr, ℕ, List, Option, Some, None, Result, Ok, Err, sym, subst, ◌∙◌}
+-- What the output took of a simulated job's answer, and which status that leaves.
+use Rattle.std.proofs.Common.{◌≡◌, ◌≢◌, ◌⊎◌, inl, inr, ℕ, List, Option, Some, refl, sym, subst}
+use Rattle.std.proofs.Common.{arith}
 use Rattle.std.specs.Option.{IfSome}
 use Rattle.std.specs.Result.{IsErr}
+use Rattle.std.proofs.lemmas.Option.{IfSome_then}
 use Rattle.fs_types.specs.declared.status.Status.{Status}
 use Rattle.fs_types.specs.declared.status.Status.TheVariants as statuses
-use Rattle.fs_script.specs.declared.fault.ScriptFault.{ScriptFault}
 use Rattle.fs_script.specs.Job.{Job}
+use Rattle.fs_script.specs.Grammar.{IsScript}
 use Rattle.fs_script.specs.Reading.{job_of}
 use Rattle.fs_script.proofs.Reading.Scripts.{script_is_job}
+use Rattle.top_call.specs.Faults.{HasRisen}
+use Rattle.top_call.specs.Told.{IsAtEnd, then_bytes}
 use Rattle.top_call.specs.declared.words.Command.{Command}
 use Rattle.top_call.specs.declared.words.Command.TheVariants.{Sim}
 use Rattle.top_call.specs.Words.{command_of}
-use Rattle.top_call.specs.Outcome.{IsSimAnswer, IsCommandAnswer, IsAnswer}
-use Rattle.top_call.specs.Top.{IsOutput, Writes}
+use Rattle.top_call.specs.CommandAnswer.{IsSimAnswer, IsCommandAnswer, IsAnswer}
+use Rattle.top_call.specs.Output.{IsOutput, WritesAnswer}
+use Rattle.top_call.specs.Top.{InputChange, OutputChange, AsksForJob, IsTopCall}
 
 -- what `sim` answers is what the words ask for
-IsAnswer-sim : (words : List (List ℕ)) (k : Command) (input : List ℕ) (status : Status) (text : List ℕ)
+IsAnswer-sim : (words : List (List ℕ)) (k : Command) (input : List ℕ) (status : Status)
+    (text : List ℕ)
     → command_of words ≡ Some k → IsSimAnswer input status text → IsAnswer words input status text
-IsAnswer-sim words (Sim seed) input status text command answer =
-    subst (λ (o : Option Command). IsCommandAnswer o input status text) (sym command) answer
+IsAnswer-sim words (Sim seed) input status text command sim =
+    subst (λ (o : Option Command). IsCommandAnswer o input status text) (sym command) sim
 
--- a status whose text was written whole, or cut off
-output : (words : List (List ℕ)) (k : Command) (input : List ℕ) (status result : Status) (text : List ℕ) (had held : Option (List ℕ))
-    → command_of words ≡ Some k → IsSimAnswer input status text → Writes status text result had held → IsOutput words input result had held
-output words k input statuses.Done result text had held command answer (inl whole) =
+-- an answer that was written whole
+IsOutput-whole : (words : List (List ℕ)) (input : List ℕ) (status : Status) (text : List ℕ)
+    (had held : Option (List ℕ))
+    → IsAnswer words input status text → IsSimAnswer input status text → held ≡ then_bytes had text
+    → IsOutput words input status had held
+IsOutput-whole words input statuses.Done text had held answer sim took =
+    record { written = text; answer = answer; took = took }
+IsOutput-whole words input statuses.Refused text had held answer sim took =
+    record { written = text; answer = answer; took = took }
+IsOutput-whole words input status text had held answer sim took = absurd sim
+
+-- an answer that was written whole, or cut off
+IsOutput-sim : (words : List (List ℕ)) (input : List ℕ) (status result : Status) (text : List ℕ)
+    (had held : Option (List ℕ))
+    → IsAnswer words input status text → IsSimAnswer input status text
+    → WritesAnswer status text result had held → IsOutput words input result had held
+IsOutput-sim words input status result text had held answer sim (inl whole) =
     subst (λ (s : Status). IsOutput words input s had held) (sym whole.0)
-    record { written = text; answer = IsAnswer-sim words k input statuses.Done text command answer; took = whole.1 }
-output words k input statuses.Refused result text had held command answer (inl whole) =
-    subst (λ (s : Status). IsOutput words input s had held) (sym whole.0)
-    record { written = text; answer = IsAnswer-sim words k input statuses.Refused text command answer; took = whole.1 }
-output words k input statuses.Usage result text had held command answer (inl whole) = absurd answer
-output words k input statuses.ReadFault result text had held command answer (inl whole) = absurd answer
-output words k input statuses.WriteFault result text had held command answer (inl whole) = absurd answer
-output words k input statuses.Memory result text had held command answer (inl whole) = absurd answer
-output words k input status result text had held command answer (inr cut) =
+    (IsOutput-whole words input status text had held answer sim whole.1)
+IsOutput-sim words input status result text had held answer sim (inr cut) =
     subst (λ (s : Status). IsOutput words input s had held) (sym cut.0)
-    record { status = status; written = text; answer = IsAnswer-sim words k input status text command answer; took = cut.1 }
+    record { status = status; written = text; answer = answer; took = cut.1 }
 
--- where it is told what the input holds
-pub IsOutput-sim : (words : List (List ℕ)) (k : Command) (told : Option (List ℕ)) (status result : Status) (text shown : List ℕ) (had held : Option (List ℕ))
-    → command_of words ≡ Some k → IfSome told (λ input. IsSimAnswer input status text) → shown ≡ text → Writes status shown result had held
-    → IfSome told (λ input. IsOutput words input result had held)
-IsOutput-sim words k None status result text shown had held command answer same writes = tt
-IsOutput-sim words k (Some input) status result text shown had held command answer same writes =
-    output words k input status result text had held command answer (subst (λ (t : List ℕ). Writes status t result had held) same writes)
+-- the answer to the script of a job is its report
+Done-script : (input : List ℕ) (s : Job) (status : Status) (text : List ℕ)
+    → IsScript input s → IsSimAnswer input status text → status ≡ statuses.Done
+Done-script input s statuses.Done text script sim = refl
+Done-script input s statuses.Refused text script sim = cc (script_is_job input s script, sim.first)
+Done-script input s status text script sim = absurd sim
 
--- what is read as a job is not refused
-unrefused : (r : Result Job ScriptFault) (s : Job) → r ≡ Ok s → IsErr r → ⊥
-unrefused (Ok t) s read refused = absurd cc
-unrefused (Err fault) s read refused = absurd cc
+-- only the script of a job is reported on
+Done-refused : (input : List ℕ) (status : Status) (text : List ℕ)
+    → IsSimAnswer input status text → IsErr (job_of input) → status ≢ statuses.Done
+Done-refused input statuses.Done text sim refused = λ done.
+    cc (subst IsErr (script_is_job input sim.job sim.script) refused)
+Done-refused input status text sim refused = λ done. cc
 
--- an input that has a report is read as a job
-reported : (input : List ℕ) (status : Status) (text : List ℕ) → IsSimAnswer input status text → status ≡ statuses.Done → IsErr (job_of input) → ⊥
-reported input statuses.Done text answer done refused =
-    unrefused (job_of input) answer.job (script_is_job input answer.job answer.script) refused
-reported input statuses.Refused text answer done refused = absurd cc
-reported input statuses.Usage text answer done refused = absurd answer
-reported input statuses.ReadFault text answer done refused = absurd answer
-reported input statuses.WriteFault text answer done refused = absurd answer
-reported input statuses.Memory text answer done refused = absurd answer
-
--- an input that is refused is never reported on
-pub refused_unreported : (told : Option (List ℕ)) (status result : Status) (text shown : List ℕ) (had held : Option (List ℕ))
-    → IfSome told (λ input. IsSimAnswer input status text) → Writes status shown result had held
-    → IfSome told (λ input. IsErr (job_of input) → result ≡ statuses.Done → ⊥)
-refused_unreported None status result text shown had held answer writes = tt
-refused_unreported (Some input) status result text shown had held answer (inl whole) = λ refused done. reported input status text answer (sym whole.0 ∙ done) refused
-refused_unreported (Some input) status result text shown had held answer (inr cut) = λ refused done. absurd cc
+-- a simulated job whose answer was written, whole or in part
+pub IsTopCall-sim : {S K H : Type 0} (words : List (List ℕ)) (k : Command)
+    (status result : Status) (text : List ℕ)
+    (input : InputChange S) (out : OutputChange K) (host : H)
+    → command_of words ≡ Some k
+    → IfSome (input.left input.old) (λ bytes. IsSimAnswer bytes status text)
+    → (status ≡ statuses.Done) ⊎ (status ≡ statuses.Refused)
+    → (status ≡ statuses.Done → IsAtEnd (input.left input.new))
+    → input.faults input.new ≡ input.faults input.old
+    → WritesAnswer status text result (out.held out.old) (out.held out.new)
+    → (result ≡ statuses.WriteFault → HasRisen (out.faults out.old) (out.faults out.new))
+    → (result ≢ statuses.WriteFault → out.faults out.new ≡ out.faults out.old)
+    → IsTopCall words result input out host host
+IsTopCall-sim words k status result text input out host
+    command sim which to_end calm writes risen quiet =
+    let told = input.left input.old in
+    let had = out.held out.old in
+    let held = out.held out.new in
+    let P : Option (List ℕ) → Type 0 = λ o. IfSome o (λ bytes. IsSimAnswer bytes status text) in
+    let output : IfSome told (λ bytes. IsOutput words bytes result had held) =
+    IfSome_then told sim (λ bytes answer. IsOutput-sim words bytes status result text had held
+    (IsAnswer-sim words k bytes status text command answer) answer writes) in
+    let refused : IfSome told (λ bytes. IsErr (job_of bytes) → status ≢ statuses.Done) =
+    IfSome_then told sim (λ bytes answer bad. Done-refused bytes status text answer bad) in
+    let reported : AsksForJob words told → status ≡ statuses.Done = λ asks.
+    Done-script asks.bytes asks.job status text asks.script (subst P asks.input sim) in
+    grind (arith, output, refused, reported)

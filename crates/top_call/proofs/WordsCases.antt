@@ -10,14 +10,14 @@ sim_zero = refl
 sim_greatest : command_of (codes "sim" ∷ codes "18446744073709551615" ∷ []) ≡ Some (Sim 18446744073709551615)
 sim_greatest = refl
 
-leading_zero : command_of (codes "sim" ∷ codes "01" ∷ []) ≡ None
-leading_zero = refl
+seed_with_leading_zero : command_of (codes "sim" ∷ codes "01" ∷ []) ≡ None
+seed_with_leading_zero = refl
 
 no_seed : command_of (codes "sim" ∷ []) ≡ None
 no_seed = refl
 
-sign : command_of (codes "sim" ∷ codes "-1" ∷ []) ≡ None
-sign = refl
+signed_seed : command_of (codes "sim" ∷ codes "-1" ∷ []) ≡ None
+signed_seed = refl
 
 too_great : command_of (codes "sim" ∷ codes "18446744073709551616" ∷ []) ≡ None
 too_great = refl

@@ -1,7 +1,7 @@
 -- What the sources and sinks in memory hold, and which of their calls fail.
 use Rattle.std.specs.Prelude.{ℕ, ◌==◌, min, Bool, ◌&&◌, ◌||◌, not, List, length, drop, nat_eq, if◌then◌else◌}
 use Rattle.std.specs.List.{list_any}
-use Rattle.top_call.specs.Faults.{one_more}
+use Rattle.top_call.specs.Faults.{next_count}
 
 -- which calls of an object fail, by their numbers from 1, and how many there were and have failed
 pub record Schedule : Type 0 where
@@ -15,14 +15,14 @@ fresh_schedule fails = record { fails = fails; calls = 0; faults = 0 }
 
 -- the next call is one that fails
 abbrev pub is_due : Schedule → Bool
-is_due schedule = list_any (λ number. nat_eq number (one_more schedule.calls)) schedule.fails
+is_due schedule = list_any (λ number. nat_eq number (next_count schedule.calls)) schedule.fails
 
 -- after a call, which failed or not
 abbrev pub after_call : Schedule → Bool → Schedule
 after_call schedule failed = record {
   fails = schedule.fails;
-  calls = one_more schedule.calls;
-  faults = if failed then one_more schedule.faults else schedule.faults;
+  calls = next_count schedule.calls;
+  faults = if failed then next_count schedule.faults else schedule.faults;
 }
 
 -- the bytes that a source has left, and the most that it gives at a time

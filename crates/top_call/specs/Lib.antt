@@ -7,7 +7,8 @@ pub mod InMemory
 pub mod SpillDev
 pub mod Host
 pub mod JobReport
-pub mod Lines
+pub mod UsageAndRefusals
 pub mod Words
-pub mod Outcome
+pub mod CommandAnswer
+pub mod Output
 pub mod Top

@@ -1,7 +1,7 @@
 //! What is written where the program does not run a job.
 
 ghost use Rattle.std.specs.Prelude.{◌≡◌, ◌++◌, IfOk, OnOk};
-ghost use Rattle.top_call.specs.Lines.{reason_text, refusal_line, usage_line};
+ghost use Rattle.top_call.specs.UsageAndRefusals.{reason_text, refusal_line, usage_line};
 
 use crate::text::append_number;
 use fs_script::{Reason, ScriptFault};
@@ -58,6 +58,3 @@ pub fn refusal_text(alloc: Global, fault: &ScriptFault) -> Result<Vec<u8>, Want>
     append_refusal(alloc, &mut out, fault)?;
     Ok(out)
 }
-
-#[cfg(test)]
-mod tests;

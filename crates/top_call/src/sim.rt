@@ -5,8 +5,8 @@ ghost use Rattle.fs_script.specs.Report.{Report, IsLegal};
 ghost use Rattle.fs_script.specs.Text.{text};
 ghost use Rattle.top_call.specs.Faults.{HasRisen};
 ghost use Rattle.top_call.specs.Told.{IsAtEnd};
-ghost use Rattle.top_call.specs.Lines.{refusal_line};
-ghost use Rattle.top_call.specs.Outcome.{IsSimAnswer};
+ghost use Rattle.top_call.specs.UsageAndRefusals.{refusal_line};
+ghost use Rattle.top_call.specs.CommandAnswer.{IsSimAnswer};
 
 use crate::outside::{ReadAllNo, Source, read_all};
 use crate::refusal::refusal_text;

@@ -24,6 +24,3 @@ pub fn read_command(words: &[String]) -> Option<Command>
         _ => None,
     }
 }
-
-#[cfg(test)]
-mod tests;

@@ -1,6 +1,6 @@
-//! A host that refuses all calls.
+//! A host and a device that refuse all calls.
 
-ghost use Rattle.std.specs.Prelude.{◌≡◌, [], None, Some, refl, IsErr, OnErr};
+ghost use Rattle.std.specs.Prelude.{◌≡◌, [], None, Some, IsErr, OnErr};
 ghost use Rattle.top_call.specs.Faults.{HasRisen};
 ghost use Rattle.top_call.specs.Host.{RefusedTo};
 ghost use Rattle.top_call.specs.declared.outside.refused.RefusedCall.TheVariants.{Device, Source, Sink};
@@ -12,29 +12,39 @@ use super::source::ReadFailed;
 use super::spill_dev::{DevFailed, SpillDev};
 use fs_types::Name;
 
-/// A device of no bytes, so that there is nothing to read and nowhere to write.
+/// A device that refuses all calls, and counts each.
 #[derive(Clone, Copy, Debug)]
-pub struct NoDev;
+pub struct NoDev {
+    size: u64,
+    faults: u64,
+}
+
+impl NoDev {
+    /// A device of so many bytes that was not asked for anything yet.
+    pub fn new(size: u64) -> NoDev
+        ensures { result ≡ record { size = size; faults = 0 } }
+    {
+        NoDev { size, faults: 0 }
+    }
+}
 
 impl SpillDev for NoDev {
-    ghost size = { λ _. 0 };
+    ghost size = { λ dev. dev.size };
 
-    ghost cells = { λ _. Some [] };
+    // No byte can be written, so there is none to tell.
+    ghost cells = { λ _. None };
 
-    ghost faults = { λ _. 0 };
+    ghost faults = { λ dev. dev.faults };
 
-    ghost cell_count = { λ _. refl };
+    ghost cell_count = { λ _. tt };
 
-    // No range lies in it, so these two ask for none, and refuse each.
-    fn write_at(&mut self, _at: u64, _b: &[u8]) -> Result<(), DevFailed>
-        ensures fails { IsErr result }
-    {
+    fn write_at(&mut self, _at: u64, _b: &[u8]) -> Result<(), DevFailed> {
+        self.faults = self.faults.saturating_add(1);
         Err(DevFailed)
     }
 
-    fn read_at(&mut self, _at: u64, _out: &mut [u8]) -> Result<(), DevFailed>
-        ensures fails { IsErr result }
-    {
+    fn read_at(&mut self, _at: u64, _out: &mut [u8]) -> Result<(), DevFailed> {
+        self.faults = self.faults.saturating_add(1);
         Err(DevFailed)
     }
 }

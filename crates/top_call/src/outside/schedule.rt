@@ -1,7 +1,7 @@
 //! Which calls of an object in memory fail.
 
 ghost use Rattle.std.specs.Prelude.{◌≡◌};
-ghost use Rattle.top_call.specs.Faults.{HasRisen, one_more};
+ghost use Rattle.top_call.specs.Faults.{HasRisen, next_count};
 ghost use Rattle.top_call.specs.InMemory.{Schedule, fresh_schedule, is_due};
 
 use std::marker::Model;
@@ -36,7 +36,7 @@ impl FailSchedule {
     /// Counts one more call, and says whether it is one that fails.
     pub fn next_fails(&mut self) -> bool
         ensures due { result ≡ is_due self.old }
-        ensures counted { self.new ≡ record self.old { calls = one_more self.old.calls } }
+        ensures counted { self.new ≡ record self.old { calls = next_count self.old.calls } }
     {
         self.calls = self.calls.saturating_add(1);
         let number = self.calls;
@@ -45,7 +45,7 @@ impl FailSchedule {
 
     /// Counts one more failed call.
     pub fn count_fault(&mut self)
-        ensures counted { self.new ≡ record self.old { faults = one_more self.old.faults } }
+        ensures counted { self.new ≡ record self.old { faults = next_count self.old.faults } }
         ensures risen { HasRisen self.old.faults self.new.faults }
     {
         self.faults = self.faults.saturating_add(1);

@@ -2,7 +2,7 @@ use Rattle.std.proofs.Common.{◌≡◌, ◌++◌, ap, ◌∙◌}
 use Rattle.std.specs.Prelude.{codes}
 use Rattle.std.specs.Fmt.{decimal}
 use Rattle.fs_script.specs.Text.{line_feed}
-use Rattle.top_call.specs.Lines.{reason_text}
+use Rattle.top_call.specs.UsageAndRefusals.{reason_text}
 use Rattle.top_call.proofs.TextLemmas.{four_parts}
 use Rattle.top_call.proofs.refusal.append_bad_line.Goals as goal
 

@@ -8,7 +8,7 @@ use Rattle.fs_script.specs.Grammar.{IsScript}
 use Rattle.fs_script.specs.Reading.{job_of}
 use Rattle.fs_script.specs.Report.{Report, IsLegal}
 use Rattle.fs_script.specs.Text.{text}
-use Rattle.top_call.specs.Lines.{usage_line, refusal_line}
+use Rattle.top_call.specs.UsageAndRefusals.{usage_line, refusal_line}
 use Rattle.top_call.specs.declared.words.Command.{Command}
 use Rattle.top_call.specs.declared.words.Command.TheVariants.{Sim}
 use Rattle.top_call.specs.Words.{command_of}

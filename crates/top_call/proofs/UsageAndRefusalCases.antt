@@ -4,7 +4,7 @@ use Rattle.std.specs.Prelude.{codes}
 use Rattle.std.specs.Fmt.{digits}
 use Rattle.fs_script.specs.declared.fault.Reason.TheVariants as reasons
 use Rattle.fs_script.specs.declared.fault.ScriptFault.TheVariants as faults
-use Rattle.top_call.specs.Lines.{refusal_line, usage_line}
+use Rattle.top_call.specs.UsageAndRefusals.{refusal_line, usage_line}
 
 usage : usage_line ≡ codes "usage: unifyfs sim SEED | run | check NAME | load N | stage NAME\n"
 usage = refl
@@ -19,9 +19,9 @@ second_line : refusal_line (faults.BadLine 2 reasons.Op) ≡ codes "refused line
 unfolding digits
 second_line = refl
 
-last_line : refusal_line (faults.BadLine 65536 reasons.Op) ≡ codes "refused line=65536 reason=op\n"
+greatest_line : refusal_line (faults.BadLine 65536 reasons.Op) ≡ codes "refused line=65536 reason=op\n"
 unfolding digits
-last_line = refl
+greatest_line = refl
 
 no_memory : refusal_line faults.Want ≡ []
 no_memory = refl

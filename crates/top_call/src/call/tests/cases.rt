@@ -1,0 +1,115 @@
+//! Calls with what they answer.
+
+use fs_types::Status;
+
+/// The words of a call, the bytes of its input and how often it has them, the status, and the whole
+/// output.
+pub type Case = (
+    &'static [&'static str],
+    &'static [u8],
+    usize,
+    Status,
+    &'static [u8],
+);
+
+const SIM: &[&str] = &["sim", "0"];
+
+/// A job of five lines, the last without its line feed.
+pub const FIVE_LINES: &[u8] = b"unifyfs 1 servers=1 clients=1 chunk=64 shmem=4 spill=0
+0 create /unifyfs/a
+0 write /unifyfs/a 0 t:hello
+0 sync /unifyfs/a
+0 read /unifyfs/a 1 3";
+
+/// Its report.
+pub const FIVE_LINES_REPORT: &[u8] = b"L 2 ok v=1
+L 3 ok slots=1
+L 4 ok v=2
+L 5 ok v=2 n=3 hex=656c6c
+J /unifyfs/a 2 4
+F /unifyfs/a n=5 frozen=0 md5=5d41402abc4b2a76b9719d911017c592
+end
+";
+
+const NO_OPERATION: &[u8] = b"unifyfs 1 servers=1 clients=1 chunk=64 shmem=4 spill=0\n";
+
+// A job with each kind of row that a job has, and a path without a file. The text that it writes is
+// 65 times the letter a, which is one byte more than a slot holds.
+const EACH_ROW: &[u8] = b"unifyfs 1 servers=1 clients=1 chunk=64 shmem=4 spill=0
+0 read /unifyfs/b 0 1
+0 create /unifyfs/a
+0 create /unifyfs/a
+0 write /unifyfs/a 0 t:aaaaaaaaaaaaaaaaaaaaaaaaaaaaaaaaaaaaaaaaaaaaaaaaaaaaaaaaaaaaaaaaa
+0 write /unifyfs/a 9 t:
+0 write /unifyfs/a 1099511627776 t:z
+0 sync /unifyfs/a
+0 read /unifyfs/a 0 32
+0 read /unifyfs/a 0 33
+0 read /unifyfs/a 65 1
+";
+
+const EACH_ROW_REPORT: &[u8] = b"L 2 badf
+L 3 ok v=1
+L 4 exists v=1
+L 5 ok slots=2
+L 6 ok slots=0
+L 7 toobig
+L 8 ok v=2
+L 9 ok v=2 n=32 hex=6161616161616161616161616161616161616161616161616161616161616161
+L 10 ok v=2 n=33 md5=b4f13cb081e412f44e99742cb128a1a5
+L 11 ok v=2 n=0 hex=
+J /unifyfs/a 3 8
+F /unifyfs/a n=65 frozen=0 md5=c743a45e0d2e6a95cb859adae0248435
+J /unifyfs/b
+F /unifyfs/b none
+end
+";
+
+// A write at the last place that a file has.
+const LAST_PLACE: &[u8] = b"unifyfs 1 servers=1 clients=1 chunk=64 shmem=4 spill=0
+0 create /unifyfs/a
+0 write /unifyfs/a 1099511627775 t:z
+0 sync /unifyfs/a
+0 read /unifyfs/a 1099511627774 16
+";
+
+// The digest is that of 16,777,216 zeros, with which the file begins.
+const LAST_PLACE_REPORT: &[u8] = b"L 2 ok v=1
+L 3 ok slots=1
+L 4 ok v=2
+L 5 ok v=2 n=2 hex=007a
+J /unifyfs/a 2 4
+F /unifyfs/a n=1099511627776 frozen=0 md5=2c7ab85a893283e98c931e9511add182
+end
+";
+
+const NO_HEADER: &[u8] = b"0 create /unifyfs/a\n";
+
+// The second of its lines is that of another client, and the third is empty.
+const SECOND_CLIENT: &[u8] = b"unifyfs 1 servers=1 clients=1 chunk=64 shmem=4 spill=0
+1 create /unifyfs/a
+
+";
+
+const HEADER_REFUSED: &[u8] = b"refused header\n";
+
+const LINE_REFUSED: &[u8] = b"refused line=2 reason=op\n";
+
+const USAGE: &[u8] = b"usage: unifyfs sim SEED | run | check NAME | load N | stage NAME\n";
+
+pub const CASES: [Case; 14] = [
+    (SIM, FIVE_LINES, 1, Status::Done, FIVE_LINES_REPORT),
+    (SIM, EACH_ROW, 1, Status::Done, EACH_ROW_REPORT),
+    (SIM, LAST_PLACE, 1, Status::Done, LAST_PLACE_REPORT),
+    (SIM, NO_OPERATION, 1, Status::Done, b"end\n"),
+    (SIM, b"", 1, Status::Refused, HEADER_REFUSED),
+    (SIM, NO_HEADER, 1, Status::Refused, HEADER_REFUSED),
+    (SIM, SECOND_CLIENT, 1, Status::Refused, LINE_REFUSED),
+    (SIM, b"\n", 65_536, Status::Refused, HEADER_REFUSED),
+    (SIM, b"\n", 65_537, Status::Refused, b"refused long\n"),
+    (&[], NO_OPERATION, 1, Status::Usage, USAGE),
+    (&["sim"], NO_OPERATION, 1, Status::Usage, USAGE),
+    (&["sim", "01"], NO_OPERATION, 1, Status::Usage, USAGE),
+    (&["sim", "0", "0"], NO_OPERATION, 1, Status::Usage, USAGE),
+    (&["run"], NO_OPERATION, 1, Status::Usage, USAGE),
+];
