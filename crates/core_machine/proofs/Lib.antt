@@ -1,3 +1,4 @@
+pub mod CallerLemmas
 pub mod Extents
 pub mod PathTables
 pub mod Paths

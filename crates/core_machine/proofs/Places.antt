@@ -8,9 +8,7 @@ use Rattle.fs_script.specs.declared.line.OpLine.{OpLine}
 use Rattle.fs_script.specs.Job.{Job, op_at, rank_in, rank_at, is_of_rank, program}
 use Rattle.fs_script.specs.Pending.{Answering}
 use Rattle.fs_script.specs.Growth.{AddsAnswer, ComesNext}
-use Rattle.fs_script.proofs.AnsweredLines.{none_from-is_some}
-use Rattle.fs_script.proofs.JournalGrows.{some_of}
-use Rattle.fs_script.proofs.Programs.{passing-rise, passing-places, program-place, program-op}
+use Rattle.fs_script.proofs.CallerLemmas.{none_from-is_some, some_of, passing-rise, passing-places, program-place, program-op}
 use Rattle.core_machine.specs.LegalSoFar.{IsAnsweredUpTo}
 
 -- client r's lines were answered up to the place, where line n stands

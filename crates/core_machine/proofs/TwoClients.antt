@@ -6,7 +6,7 @@ use Rattle.fs_script.specs.declared.line.Line.TheVariants as lines
 use Rattle.fs_script.specs.declared.line.Op.TheVariants as ops
 use Rattle.fs_script.specs.declared.line.Data.TheVariants.{Text}
 use Rattle.fs_script.specs.Job.{Job}
-use Rattle.fs_script.proofs.FiveLines.{path_a, on_a}
+use Rattle.fs_script.proofs.CallerLemmas.{path_a, on_a}
 use Rattle.core_machine.specs.Doing.{nothing}
 use Rattle.core_machine.specs.Moment.{Client, Moment, fresh_client, ready}
 use Rattle.core_machine.specs.Step.{Turn, step}

@@ -6,7 +6,7 @@ use Rattle.std.proofs.lemmas.Option.{none-some}
 use Rattle.fs_types.specs.declared.answer.Answer.{Answer}
 use Rattle.fs_types.specs.AnswerList.{answer_at, IsRisingFrom}
 use Rattle.fs_types.proofs.CallerLemmas.{answer_at-same, answer_at-other, answer_at-rising_below, IsRisingFrom-lower}
-pub use Rattle.fs_script.proofs.PlainLists.{none_from-is_some}
+use Rattle.fs_script.proofs.PlainLists.{none_from-is_some}
 
 -- without an answer to its first number, a list rises from the next one
 pub rises_past : (xs : List (ℕ × Answer)) (k : ℕ) → IsRisingFrom k xs → answer_at xs k ≡ None → IsRisingFrom (k + 1) xs

@@ -19,7 +19,7 @@ use Rattle.fs_script.specs.Growth.{AllFit, ComesNext, IsOfNoEarlierPhase}
 use Rattle.fs_script.proofs.Fronts.{of_earlier_phases-le-length, front-push}
 use Rattle.fs_script.proofs.JournalGrows.{answered-in_journal}
 use Rattle.fs_script.proofs.PlainLists.{AllByRecursion-from_get, AllByRecursion-at, AllByRecursion-take, some_of}
-pub use Rattle.fs_script.proofs.PlainLists.{AllByRecursion-push}
+use Rattle.fs_script.proofs.PlainLists.{AllByRecursion-push}
 
 -- ---- the front
 

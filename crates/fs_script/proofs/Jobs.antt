@@ -1,13 +1,12 @@
 -- What a job within the limits says of each of its lines.
-use Rattle.std.proofs.Common.{◌≡◌, ℕ, zero, suc, ◌+◌, ◌<◌, ◌≤◌, List, [], ◌∷◌, length, Some, inl, refl, subst, arith}
+use Rattle.std.proofs.Common.{◌≡◌, ℕ, zero, suc, ◌+◌, ◌<◌, ◌≤◌, List, [], ◌∷◌, length, Some, inl, subst, arith}
 use Rattle.std.specs.List.{slice_get, AllByRecursion}
-use Rattle.std.specs.Prelude.{count_by, take}
 use Rattle.std.proofs.lemmas.Option.{same_Some}
 use Rattle.fs_script.specs.declared.shape.Shape.{Shape}
 use Rattle.fs_script.specs.declared.line.Line.{Line}
 use Rattle.fs_script.specs.declared.line.Line.TheVariants as lines
 use Rattle.fs_script.specs.declared.line.OpLine.{OpLine}
-use Rattle.fs_script.specs.Job.{Job, operation, op_at, is_barrier, phase}
+use Rattle.fs_script.specs.Job.{Job, operation, op_at}
 use Rattle.fs_script.specs.Fits.{AreTold}
 use Rattle.fs_script.specs.Grammar.{IsJob, IsLine, IsOpLine}
 
@@ -41,30 +40,8 @@ op_at-within s zero o h = absurd cc
 op_at-within s (suc zero) o h = absurd cc
 op_at-within s (suc (suc k)) o h = let within = slice_get-operation s.lines k o h in (omega arith, omega arith)
 
--- ---- the one client
-
-pub rank-first : (h : Shape) (o : OpLine) → h.clients ≡ 1 → IsOpLine h o → o.rank ≡ 0
-rank-first h o one is = omega (arith, is.rank, one)
-
--- each operation is client 0's
-pub rank-from_job : (s : Job) (n : ℕ) (o : OpLine) → IsJob s → op_at s n ≡ Some o → o.rank ≡ 0
-rank-from_job s n o job is = rank-first s.shape o job.shape.clients (IsOpLine-from_job s n o job is)
-
 -- ---- spilling
 
 -- nothing is spilled, so every byte that is shown is compared
 pub AreTold-from_job : (s : Job) (told : List ℕ) → IsJob s → AreTold s told
 AreTold-from_job s told job = inl job.shape.spill
-
--- ---- phases
-
-no_barriers : (h : Shape) (k : ℕ) (ls : List Line) → AllByRecursion (IsLine h) ls → count_by is_barrier (take k ls) ≡ 0
-no_barriers h zero ls all = refl
-no_barriers h (suc k) [] all = refl
-no_barriers h (suc k) (lines.Note ∷ ls) all = absurd all.0
-no_barriers h (suc k) (lines.Barrier ∷ ls) all = absurd all.0
-no_barriers h (suc k) (lines.Op o ∷ ls) all = let rest = no_barriers h k ls all.1 in omega arith
-
--- where all lines are operations, there is but one phase
-pub phase-only : (s : Job) (n : ℕ) → IsJob s → phase s n ≡ 0
-phase-only s n job = no_barriers s.shape _ s.lines job.lines

@@ -98,15 +98,6 @@ slice_get-range a k i lt =
 pub slice_get-range_past : (a k i : ℕ) → k ≤ i → slice_get (range_with_len a k) i ≡ None
 slice_get-range_past a k i le = slice_get_past (range_with_len a k) i (omega (arith, length-range_with_len a k))
 
--- where each number of a range passes, all of them are kept
-pub filter-range_all : (P : ℕ → Bool) (a k : ℕ) → ((i : ℕ) → i < k → P (a + i) ≡ true)
-    → filter P (range_with_len a k) ≡ range_with_len a k
-filter-range_all P a zero pass = refl
-filter-range_all P a (suc k) pass =
-    let first : P a ≡ true = ap P (omega arith) ∙ pass 0 (omega arith) in
-    let rest = filter-range_all P (a + 1) k (λ i lt. ap P (omega arith) ∙ pass (suc i) (omega arith)) in
-    rw first (ap (λ (ns : List ℕ). a ∷ ns) rest)
-
 -- ---- the numbers of a range that pass a test
 
 module _ (P : ℕ → Bool) (a len : ℕ) where

@@ -4,7 +4,7 @@
 pub use Rattle.fs_types.proofs.Tables.{answer_at-same, answer_at-other, IsRisingFrom-lower}
 -- the answers of a rising list, and what putting one more makes of it
 pub use Rattle.fs_types.proofs.AnswerOrder.{cases_line, answer_at-each, answer_at-rising_below}
-pub use Rattle.fs_types.proofs.AnswerOrder.{IsRisingFrom-put_answer, answer_at-put_answer, put_answer-above}
+pub use Rattle.fs_types.proofs.AnswerOrder.{IsRisingFrom-put_answer, answer_at-put_answer}
 -- what stands at each place of a list that is written over or shown, and how long it is
 pub use Rattle.fs_types.proofs.Overwrites.{length-put, get_or-put, length-shown}
 pub use Rattle.fs_types.proofs.PlainFiles.{All-written, length-written}

@@ -7,18 +7,18 @@ use Rattle.std.proofs.lemmas.Option.{same_Some}
 use Rattle.fs_types.specs.PathText.{IsPath}
 use Rattle.fs_script.specs.Grammar.{IsJob}
 use Rattle.fs_script.specs.Report.{AreRising, journal_of}
-use Rattle.fs_script.proofs.Jobs.{IsOpLine-from_job}
-use Rattle.core_machine.proofs.Paths.{not_among, same_bytes, other_bytes}
+use Rattle.fs_script.proofs.CallerLemmas.{IsOpLine-from_job}
+use Rattle.core_machine.proofs.CallerLemmas.{not_among, same_bytes, other_bytes}
 use Rattle.fs_script.specs.declared.line.OpLine.{OpLine}
 use Rattle.fs_script.specs.Job.{Job, op_at, Names}
 use Rattle.core_machine.specs.Moment.{Moment, ready, next_line}
-use Rattle.core_machine.specs.Event.{step, step_at, step_line}
-use Rattle.core_machine.specs.LegalSoFar.{Reaches}
+use Rattle.core_machine.specs.Step.{Turn, step, step_at, step_line}
+use Rattle.core_machine.specs.LegalSoFar.{HasClients, Reaches}
 
 -- a run and one more turn
-pub Reaches-push : (m n : Moment) (turns : List ℕ) (r : ℕ) → Reaches m turns n → Contains (ready n) r → Reaches m (turns ++ r ∷ []) (step n r)
-Reaches-push m n [] r run waits = (subst (λ (k : Moment). Contains (ready k) r) (sym run) waits, ap (λ (k : Moment). step k r) run)
-Reaches-push m n (t ∷ turns) r run waits = (run.0, Reaches-push (step m t) n turns r run.1 waits)
+pub Reaches-push : (m n : Moment) (turns : List Turn) (t : Turn) → Reaches m turns n → Contains (ready n) t.client → Reaches m (turns ++ t ∷ []) (step n t)
+Reaches-push m n [] t run waits = (subst (λ (k : Moment). Contains (ready k) t.client) (sym run) waits, ap (λ (k : Moment). step k t) run)
+Reaches-push m n (first ∷ turns) t run waits = (run.0, Reaches-push (step m first) n turns t run.1 waits)
 
 unspent_line : (m : Moment) (r n : ℕ) (o : Option OpLine) → m.spent ≡ false → (step_line m r n o).spent ≡ false
 unspent_line m r n None unspent = unspent
@@ -29,9 +29,9 @@ unspent_at m r None unspent = unspent
 unspent_at m r (Some n) unspent = unspent_line m r n (op_at m.job n) unspent
 
 -- a run of events never runs out of memory
-pub Reaches-unspent : (m n : Moment) (turns : List ℕ) → Reaches m turns n → m.spent ≡ false → n.spent ≡ false
+pub Reaches-unspent : (m n : Moment) (turns : List Turn) → Reaches m turns n → m.spent ≡ false → n.spent ≡ false
 Reaches-unspent m n [] run unspent = ap (λ (k : Moment). k.spent) (sym run) ∙ unspent
-Reaches-unspent m n (r ∷ turns) run unspent = Reaches-unspent (step m r) n turns run.1 (unspent_at m r (next_line m r) unspent)
+Reaches-unspent m n (t ∷ turns) run unspent = Reaches-unspent (step m t) n turns run.1 (unspent_at m t.client (next_line m t.client) unspent)
 
 -- ---- what is reported of each path
 
@@ -64,3 +64,7 @@ take-whole xs n le = take_all n xs le
 -- the paths that a job names are in the grammar
 pub IsPath-named : (s : Job) (p : List ℕ) → IsJob s → Names s p → IsPath p
 IsPath-named s p job named = subst IsPath named.on (IsOpLine-from_job s named.line named.op job named.is).path
+
+-- and its operations are of its clients
+pub HasClients-job : (s : Job) → IsJob s → HasClients s
+HasClients-job s job n o is = (IsOpLine-from_job s n o job is).rank

@@ -7,8 +7,7 @@ use Rattle.std.proofs.lemmas.List.{flat_map_more}
 use Rattle.std.proofs.lemmas.List.Elements.{All-head, All-tail}
 use Rattle.fs_types.specs.AnswerList.{answer_at, IsRisingFrom}
 use Rattle.fs_types.specs.declared.answer.Answer.{Answer}
-use Rattle.fs_types.proofs.Tables.{answer_at-same, answer_at-other}
-use Rattle.fs_types.proofs.AnswerOrder.{cases_line, answer_at-rising_below}
+use Rattle.fs_types.proofs.CallerLemmas.{answer_at-same, answer_at-other, cases_line, answer_at-rising_below}
 use Rattle.fs_script.specs.Text.{path_lines, answer_line, line_feed, text}
 use Rattle.top_call.specs.JobReport.{path_text, report_view}
 use Rattle.top_call.specs.declared.report.JobReport.{JobReport}

@@ -1,9 +1,10 @@
 //! Running a job to its end, and what it reports then.
 
-ghost use Rattle.std.specs.Prelude.{◌≡◌, ℕ, ◌<◌, false, List, [], length, map, slice_get, Some, Contains, IfOk, OnOk};
+ghost use Rattle.std.specs.Prelude.{◌≡◌, ℕ, ◌<◌, List, [], length, map, slice_get, Some, Contains, IfOk, OnOk};
 ghost use Rattle.fs_types.specs.PathText.{IsPath};
 ghost use Rattle.fs_script.specs.Report.{AreRising, IsLegal, file_state_of};
 ghost use Rattle.core_machine.specs.Moment.{ready, file_now};
+ghost use Rattle.core_machine.specs.Step.{Turn};
 ghost use Rattle.core_machine.specs.LegalSoFar.{Reaches};
 ghost use Rattle.core_machine.specs.MomentReport.{report_of};
 ghost use Rattle.top_call.specs.JobReport.{report_view, journal_entry, file_entry};
@@ -16,7 +17,7 @@ use std::alloc::Global;
 
 // Gives the first client that is ready its turn until none is ready.
 fn run_to_end(core: &mut Core<'_>) -> Result<(), Want>
-    ensures run { OnOk result ((turns : List ℕ) × Reaches core.old turns core.new) }
+    ensures run { OnOk result ((turns : List Turn) × Reaches core.old turns core.new) }
     ensures ended { OnOk result (ready core.new ≡ []) }
 {
     while let Some(r) = core.ready().first().copied() {

@@ -9,11 +9,11 @@ use Rattle.std.proofs.lemmas.List.{length-take-le, length-drop, get_or_append_le
 use Rattle.fs_types.specs.declared.limits.TheConstants.{LONGEST_FILE}
 use Rattle.fs_types.specs.PlainFile.{written}
 use Rattle.fs_types.specs.Overwrite.{put}
-use Rattle.fs_types.proofs.Overwrites.{length-put, get_or-put}
+use Rattle.fs_types.proofs.CallerLemmas.{length-put, get_or-put}
 use Rattle.fs_script.specs.Job.{Job}
 use Rattle.fs_script.specs.Payload.{payload, offset, bytes_of}
 use Rattle.fs_script.specs.Effect.{put_lines}
-use Rattle.fs_script.proofs.States.{put_lines-append}
+use Rattle.fs_script.proofs.CallerLemmas.{put_lines-append}
 use Rattle.core_machine.specs.declared.extent.Extent.{Extent}
 use Rattle.core_machine.specs.Extents.{IsExtent, AreExtents, lines_of_extents, bytes_of_extents, byte_over}
 

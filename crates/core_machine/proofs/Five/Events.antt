@@ -3,7 +3,7 @@ use Rattle.std.proofs.Common.{◌≡◌, [], ◌∷◌, refl, false}
 use Rattle.std.specs.Prelude.{codes}
 use Rattle.fs_types.specs.declared.answer.Answer.TheVariants as answers
 use Rattle.fs_types.specs.declared.answer.Body.TheVariants as bodies
-use Rattle.fs_script.proofs.FiveLines.{five_lines, path_a}
+use Rattle.fs_script.proofs.CallerLemmas.{five_lines, path_a}
 use Rattle.core_machine.specs.Doing.{nothing}
 use Rattle.core_machine.specs.Moment.{Moment, fresh_client, ready}
 use Rattle.core_machine.specs.Step.{Turn, step}

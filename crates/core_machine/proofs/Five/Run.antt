@@ -4,7 +4,7 @@ use Rattle.std.proofs.lemmas.Option.{none-some, same_Some}
 use Rattle.fs_script.specs.declared.line.OpLine.{OpLine}
 use Rattle.fs_script.specs.Job.{op_at}
 use Rattle.fs_script.specs.Report.{ArePaths, IsLegal}
-use Rattle.fs_script.proofs.FiveLines.{five_lines, path_a, on_a}
+use Rattle.fs_script.proofs.CallerLemmas.{five_lines, path_a, on_a}
 use Rattle.core_machine.specs.Moment.{IsFirst}
 use Rattle.core_machine.specs.MomentReport.{report_of}
 use Rattle.core_machine.specs.Step.{Turn}

@@ -10,12 +10,7 @@ use Rattle.fs_script.specs.declared.line.OpLine.{OpLine}
 use Rattle.fs_script.specs.Job.{Job, op_at, op_lines, is_of_rank, program}
 use Rattle.fs_script.specs.Pending.{Answering}
 use Rattle.fs_script.specs.Report.{file_state_of, IsLegal}
-use Rattle.fs_script.proofs.AnsweredLines.{rises_past, none_from-is_some, lines-passing}
-use Rattle.fs_script.proofs.Finished.{IsLegal-finished}
-use Rattle.fs_script.proofs.Fronts.{phase-rises}
-use Rattle.fs_script.proofs.JournalGrows.{some_of}
-use Rattle.fs_script.proofs.Jobs.{op_at-within}
-use Rattle.fs_script.proofs.Programs.{passing-rise, program-place, program-op}
+use Rattle.fs_script.proofs.CallerLemmas.{rises_past, none_from-is_some, lines-passing, IsLegal-finished, phase-rises, some_of, op_at-within, passing-rise, program-place, program-op}
 use Rattle.core_machine.specs.Moment.{Moment, printed, client_of, file_now, has_begun, may_come, next_line, ready}
 use Rattle.core_machine.specs.MomentReport.{report_of}
 use Rattle.core_machine.specs.LegalSoFar.{IsAnsweredUpTo, IsLegalMoment}

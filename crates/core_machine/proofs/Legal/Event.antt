@@ -14,8 +14,7 @@ use Rattle.fs_script.specs.Effect.{is_enabled}
 use Rattle.fs_script.specs.Fits.{IsInReach, AreTold, AgreesWithOpen, LineView, line_view, IsInTable}
 use Rattle.fs_script.specs.Journal.{commit_of, IsLegalJournal}
 use Rattle.fs_script.specs.Growth.{AllFit, ComesNext, IsOfNoEarlierPhase}
-use Rattle.fs_script.proofs.JournalGrows.{slice_get-push_last}
-use Rattle.fs_script.proofs.InReach.{front-le-length_fit, IsInReach-now, IsInReach-made}
+use Rattle.fs_script.proofs.CallerLemmas.{slice_get-push_last, front-le-length_fit, IsInReach-now, IsInReach-made}
 use Rattle.core_machine.specs.Event.{Event, PathNow, if_open}
 use Rattle.core_machine.specs.Step.{path_now}
 

@@ -8,9 +8,7 @@ use Rattle.std.proofs.lemmas.List.Sums.{AllPass-from_list_all, list_all-from_All
 use Rattle.std.proofs.lemmas.Option.{slice_get_within, get_or_from_slice_get}
 use Rattle.fs_script.specs.declared.line.OpLine.{OpLine}
 use Rattle.fs_script.specs.Job.{op_at, op_lines, phase}
-use Rattle.fs_script.proofs.JournalGrows.{some_of}
-use Rattle.fs_script.proofs.Jobs.{op_at-within}
-use Rattle.fs_script.proofs.Programs.{passing-place}
+use Rattle.fs_script.proofs.CallerLemmas.{some_of, op_at-within, passing-place}
 use Rattle.core_machine.specs.Moment.{Moment, printed, has_begun}
 
 -- a number of a range that passes a test is among those that do

@@ -7,7 +7,7 @@ use Rattle.std.proofs.lemmas.List.{length-replicate, get_or-replicate}
 use Rattle.fs_types.specs.AnswerList.{answer_at, IsRising}
 use Rattle.fs_script.specs.Job.{Job}
 use Rattle.fs_script.specs.Report.{journal_of, IsLegal}
-use Rattle.fs_script.proofs.SoFar.{IsLegalSoFar-none}
+use Rattle.fs_script.proofs.CallerLemmas.{IsLegalSoFar-none}
 use Rattle.core_machine.specs.Moment.{Moment, fresh_client, printed, answering, client_of, journal, ready, IsFirst}
 use Rattle.core_machine.specs.MomentReport.{report_of}
 use Rattle.core_machine.specs.Step.{Turn, step}

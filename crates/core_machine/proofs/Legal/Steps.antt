@@ -6,17 +6,14 @@ use Rattle.std.proofs.lemmas.List.{get_or-set_same, get_or-set_other, length-set
 use Rattle.std.proofs.lemmas.Option.{same_Some}
 use Rattle.fs_types.specs.declared.answer.Answer.{Answer}
 use Rattle.fs_types.specs.AnswerList.{answer_at, put_answer}
-use Rattle.fs_types.proofs.AnswerOrder.{IsRisingFrom-put_answer}
+use Rattle.fs_types.proofs.CallerLemmas.{IsRisingFrom-put_answer}
 use Rattle.fs_script.specs.Job.{op_at, phase, is_of_rank, program}
 use Rattle.fs_script.specs.Pending.{Answering, pending}
 use Rattle.fs_script.specs.Journal.{commit_of, commit_by}
 use Rattle.fs_script.specs.Report.{journal_of, ArePaths}
 use Rattle.fs_script.specs.Growth.{AddsAnswer}
 use Rattle.fs_script.specs.SoFar.{IsLegalSoFar, IsNextAnswer}
-use Rattle.fs_script.proofs.Agreement.{pending-agree, AddsAnswer-put}
-use Rattle.fs_script.proofs.JournalGrows.{AgreeBefore-next}
-use Rattle.fs_script.proofs.Programs.{passing-places, program-op}
-use Rattle.fs_script.proofs.SoFar.{IsLegalSoFar-kept, IsLegalSoFar-commit}
+use Rattle.fs_script.proofs.CallerLemmas.{pending-agree, AddsAnswer-put, AgreeBefore-next, passing-places, program-op, IsLegalSoFar-kept, IsLegalSoFar-commit}
 use Rattle.core_machine.specs.Doing.{Doing}
 use Rattle.core_machine.specs.Moment.{Client, Moment, fresh_client, printed, answering, client_of, journal, with_entry, ready}
 use Rattle.core_machine.specs.Event.{Event}

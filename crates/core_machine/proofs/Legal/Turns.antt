@@ -7,9 +7,7 @@ use Rattle.std.proofs.lemmas.Option.{same_Some}
 use Rattle.fs_script.specs.declared.line.OpLine.{OpLine}
 use Rattle.fs_script.specs.Job.{op_at, phase, rank_in, is_of_rank, program}
 use Rattle.fs_script.specs.Growth.{ComesNext}
-use Rattle.fs_script.proofs.JournalGrows.{some_of, AllByRecursion-from_get, answered-in_journal}
-use Rattle.fs_script.proofs.Programs.{passing-rise, program-place, program-op}
-use Rattle.fs_script.proofs.AnsweredLines.{none_from-is_some}
+use Rattle.fs_script.proofs.CallerLemmas.{some_of, AllByRecursion-from_get, answered-in_journal, passing-rise, program-place, program-op, none_from-is_some}
 use Rattle.core_machine.specs.Moment.{Moment, printed, answering, client_of, journal, has_begun, may_come, next_line, ready}
 use Rattle.core_machine.specs.Step.{after_event, event_at, step_line, step_at, step}
 use Rattle.core_machine.specs.LegalSoFar.{IsAnsweredUpTo, IsLegalMoment}

@@ -12,9 +12,7 @@ use Rattle.fs_script.specs.Pending.{Answering, pending, after}
 use Rattle.fs_script.specs.Front.{seen, seen_after, is_open, open_after}
 use Rattle.fs_script.specs.Effect.{state}
 use Rattle.fs_script.specs.Growth.{AddsAnswer, ComesNext, AgreeBefore, SamePending}
-use Rattle.fs_script.proofs.Agreement.{pending-agree, seen-agree, is_open-agree}
-use Rattle.fs_script.proofs.States.{state_in-agree}
-use Rattle.fs_script.proofs.JournalGrows.{AgreeBefore-next, pending_at-answered, some_of}
+use Rattle.fs_script.proofs.CallerLemmas.{pending-agree, seen-agree, is_open-agree, state_in-agree, AgreeBefore-next, pending_at-answered, some_of}
 
 -- ---- a client and a path that the line is not of
 

@@ -9,8 +9,7 @@ use Rattle.fs_script.specs.Pending.{Answering, pending, after_answer, after}
 use Rattle.fs_script.specs.Effect.{state}
 use Rattle.fs_script.specs.Front.{is_open, seen, opens, at_least, seen_after, open_after}
 use Rattle.fs_script.specs.Growth.{AddsAnswer, ComesNext}
-use Rattle.fs_script.proofs.Agreement.{pending-agree, seen-agree, is_open-agree}
-use Rattle.fs_script.proofs.JournalGrows.{AgreeBefore-next}
+use Rattle.fs_script.proofs.CallerLemmas.{pending-agree, seen-agree, is_open-agree, AgreeBefore-next}
 use Rattle.core_machine.specs.declared.path_state.OwnedPath.{OwnedPath}
 use Rattle.core_machine.specs.declared.path_state.ClientPath.{ClientPath}
 use Rattle.core_machine.specs.Event.{known_of}

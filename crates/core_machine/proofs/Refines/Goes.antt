@@ -7,7 +7,7 @@ use Rattle.std.proofs.lemmas.List.Sums.{sum_by-cons}
 use Rattle.std.proofs.lemmas.Option.{slice_get-get_or, slice_get_within}
 use Rattle.fs_types.specs.AnswerList.{Given}
 use Rattle.fs_script.specs.Job.{Job, phase, program}
-use Rattle.fs_script.proofs.Programs.{passes}
+use Rattle.fs_script.proofs.CallerLemmas.{passes}
 use Rattle.core_machine.specs.declared.path_state.PathState.{PathState}
 use Rattle.core_machine.specs.Turns.{Places, IsInPhase, going, next_in, is_of_phase}
 use Rattle.core_machine.specs.Moment.{events_left, ready}

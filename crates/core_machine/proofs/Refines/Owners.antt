@@ -12,9 +12,7 @@ use Rattle.fs_script.specs.Payload.{bytes_of}
 use Rattle.fs_script.specs.Pending.{Answering, pending, pending_for, pending_at}
 use Rattle.fs_script.specs.Effect.{effect_of, effect_in, state}
 use Rattle.fs_script.specs.Growth.{AddsAnswer, ComesNext}
-use Rattle.fs_script.proofs.States.{state_in-push, state_in-push_last}
-use Rattle.fs_script.proofs.JournalGrows.{pending_at-next}
-use Rattle.fs_script.proofs.InReach.{AllByRecursion-push}
+use Rattle.fs_script.proofs.CallerLemmas.{state_in-push, state_in-push_last, pending_at-next, AllByRecursion-push}
 use Rattle.core_machine.specs.declared.path_state.OwnedPath.{OwnedPath}
 use Rattle.core_machine.specs.declared.path_state.ClientPath.{ClientPath}
 use Rattle.core_machine.specs.Event.{known_of}

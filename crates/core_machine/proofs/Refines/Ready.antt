@@ -8,9 +8,7 @@ use Rattle.fs_types.specs.AnswerList.{Given, answer_at}
 use Rattle.fs_script.specs.declared.line.OpLine.{OpLine}
 use Rattle.fs_script.specs.Job.{Job, op_at, is_of_rank, phase, program}
 use Rattle.fs_script.specs.Pending.{Answering}
-use Rattle.fs_script.proofs.Fronts.{phase-rises}
-use Rattle.fs_script.proofs.Jobs.{IsOpLine-from_job}
-use Rattle.fs_script.proofs.Programs.{passes, passing-rise, program-place, program-op}
+use Rattle.fs_script.proofs.CallerLemmas.{phase-rises, IsOpLine-from_job, passes, passing-rise, program-place, program-op}
 use Rattle.core_machine.specs.declared.path_state.PathState.{PathState}
 use Rattle.core_machine.specs.Moment.{Moment, has_begun, may_come, next_line, ready}
 use Rattle.core_machine.specs.Turns.{Places, IsInPhase, going, next_in, is_of_phase}

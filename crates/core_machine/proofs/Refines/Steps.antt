@@ -13,10 +13,7 @@ use Rattle.fs_script.specs.declared.line.OpLine.{OpLine}
 use Rattle.fs_script.specs.declared.line.Op.{Op}
 use Rattle.fs_script.specs.Job.{Job, op_at, own_at, own_op, rank_at, rank_in, phase, program}
 use Rattle.fs_script.specs.Pending.{Answering, pending}
-use Rattle.fs_script.proofs.Agreement.{AddsAnswer-put}
-use Rattle.fs_script.proofs.JournalGrows.{own_op-rank}
-use Rattle.fs_script.proofs.Jobs.{op_at-within}
-use Rattle.fs_script.proofs.Programs.{program-op}
+use Rattle.fs_script.proofs.CallerLemmas.{AddsAnswer-put, own_op-rank, op_at-within, program-op}
 use Rattle.core_machine.specs.declared.path_state.PathState.{PathState}
 use Rattle.core_machine.specs.declared.path_state.ClientPath.{ClientPath}
 use Rattle.core_machine.specs.Kept.{AreSound, pending_lines}

@@ -6,7 +6,7 @@ use Rattle.fs_script.specs.Job.{Job}
 use Rattle.fs_script.specs.Payload.{bytes_of}
 use Rattle.fs_script.specs.Operations.{has_any}
 use Rattle.fs_script.specs.Effect.{effect_of, put_lines}
-use Rattle.fs_script.proofs.States.{put_lines-append}
+use Rattle.fs_script.proofs.CallerLemmas.{put_lines-append}
 use Rattle.core_machine.specs.declared.extent.Extent.{Extent}
 use Rattle.core_machine.specs.declared.path_state.OwnedPath.{OwnedPath}
 use Rattle.core_machine.specs.declared.path_state.ClientPath.{ClientPath}

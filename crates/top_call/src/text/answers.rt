@@ -32,6 +32,7 @@ fn append_answer(alloc: Global, out: &mut Vec<u8>, answer: &Answer) -> Result<()
         Answer::BadF => out.extend_from_slice(b"badf")?,
         Answer::Exists { v } => append_number(alloc, out, b"exists v=", v.0)?,
         Answer::NoEnt { v } => append_number(alloc, out, b"noent v=", v.0)?,
+        Answer::ReadOnly { v } => append_number(alloc, out, b"readonly v=", v.0)?,
         Answer::TooBig => out.extend_from_slice(b"toobig")?,
     }
     Ok(())

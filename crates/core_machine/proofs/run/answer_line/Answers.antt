@@ -1,8 +1,7 @@
 use Rattle.std.proofs.Common.{◌≡◌, ℕ, zero, suc, ◌<◌, false, List, [], ◌∷◌, length, Some, slice_get, set, is_some, refl, sym, ap, subst, arith, ◌∙◌}
 use Rattle.fs_types.specs.declared.answer.Answer.{Answer}
 use Rattle.fs_types.specs.AnswerList.{Given, put_answer}
-use Rattle.fs_script.proofs.Jobs.{op_at-within}
-use Rattle.fs_script.proofs.Programs.{program-op}
+use Rattle.fs_script.proofs.CallerLemmas.{op_at-within, program-op}
 use Rattle.core_machine.specs.declared.path_state.PathState.{PathState}
 use Rattle.core_machine.specs.Follows.{FollowsFor, IsSoundFor}
 use Rattle.core_machine.specs.MomentKept.{moment_of, after_line}
