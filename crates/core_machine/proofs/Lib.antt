@@ -3,7 +3,9 @@ pub mod Extents
 pub mod PathTables
 pub mod Paths
 pub mod Places
+pub mod Programs
 pub mod Refines
 pub mod Legal
 pub mod Five
 pub mod TwoClients
+pub mod TurnCases

@@ -8,6 +8,7 @@ pub mod Step
 pub mod Kept
 pub mod Follows
 pub mod Turns
+pub mod Program
 pub mod LegalSoFar
 pub mod MomentKept
 pub mod Standing

@@ -10,6 +10,7 @@ mod laws;
 mod noted;
 mod path_state;
 mod path_table;
+mod program;
 mod run;
 mod turns;
 

@@ -23,9 +23,9 @@ returns-then-advance-clause-run c =
     let r = c.args.run.now in
     record {
       sized = ap length (states-are c) ∙ length-map r.states.items told ∙ c.requires.sized;
-      phases = c.advance.ensures.in_phase;
+      phases = c.advance.ensures.phase;
       holds = λ _. subst (λ xs. Holds r.script.now r.paths xs r.answers c.advance.new.self) (sym (states-are c))
-          (Holds-told r.script.now r.paths r.states.items r.answers (after_line r.turns c.args.r) c.advance.new.self c.advance.ensures.job c.advance.ensures.places c.if-advance.ensures.began c.requires.holds);
+          (Holds-told r.script.now r.paths r.states.items r.answers (after_line r.turns c.args.r) c.advance.new.self c.advance.ensures.job c.advance.ensures.places (c.advance.ensures.begins c.if-advance.true) c.requires.holds);
     }
 
 pub returns-then-advance-clause-moment : goal.returns-then-advance-clause-moment
@@ -43,6 +43,6 @@ returns-else-advance-clause-run c =
     let r = c.args.run.now in
     record {
       sized = c.requires.sized;
-      phases = c.advance.ensures.in_phase;
-      holds = λ _. subst (Holds r.script.now r.paths r.states.items r.answers) (sym (same_places c.advance.new.self (after_line r.turns c.args.r) c.advance.ensures.job c.advance.ensures.places c.if-advance.ensures.same)) c.requires.holds;
+      phases = c.advance.ensures.phase;
+      holds = λ _. subst (Holds r.script.now r.paths r.states.items r.answers) (sym (same_places c.advance.new.self (after_line r.turns c.args.r) c.advance.ensures.job c.advance.ensures.places (c.advance.ensures.goes_on c.if-advance.false))) c.requires.holds;
     }

@@ -1,0 +1,100 @@
+-- What the programs that are kept say of the lines that come next, and of their phases.
+use Rattle.std.proofs.Common.{◌≡◌, ℕ, ◌<◌, ◌≤◌, List, [], length, map, Option, Some, None, slice_get, slice_index, Contains, refl, sym, ap, ◌∙◌, subst, zero-add, inl, inr, arith}
+use Rattle.std.specs.Prelude.{IfNone, IfSome, unwrap_or}
+use Rattle.std.specs.List.{range_with_len}
+use Rattle.std.specs.Option.{option_map}
+use Rattle.std.proofs.lemmas.List.{length-map}
+use Rattle.std.proofs.lemmas.List.Elements.{All-contains}
+use Rattle.std.proofs.lemmas.List.FromFn.{length-map-range_with_len}
+use Rattle.std.proofs.lemmas.Option.{same_Some, slice_get-map, slice_get_within, slice_get_cases, get_or_from_slice_get}
+use Rattle.fs_script.specs.Job.{Job, phase, program}
+use Rattle.fs_script.specs.Grammar.{IsJob}
+use Rattle.fs_script.proofs.CallerLemmas.{IsOpLine-from_job, slice_get-range, program-op}
+use Rattle.core_machine.specs.declared.program.Program.{Program}
+use Rattle.core_machine.specs.Turns.{Places, next_in, going, IsInPhase}
+use Rattle.core_machine.specs.Program.{IsLeast, next_of, next_phases, ArePrograms, places_of}
+use Rattle.core_machine.proofs.Programs.LeastPhase.{next_phases-at, next_phases-from}
+use Rattle.core_machine.proofs.Programs.Going.{Goes, none-goes, IsInPhase-from_some}
+
+-- a client with a next line is one of the job's
+pub next_in-within : (v : Places) (r n : ℕ) → IsJob v.job → next_in v r ≡ Some n → r < v.job.shape.clients
+next_in-within v r n job next =
+    let op = program-op v.job r (slice_index v.places r) n next in
+    subst (λ q. q < v.job.shape.clients) op.2 (IsOpLine-from_job v.job n op.0 job op.1).rank
+
+none-from : (x : Option ℕ) → ((n : ℕ) → x ≡ Some n → ⊥) → x ≡ None
+none-from None never = refl
+none-from (Some n) never = absurd (never n refl)
+
+module _ (s : Job) (ps : List Program) (are : ArePrograms s ps) where
+  pub length-programs : length ps ≡ s.shape.clients
+  length-programs =
+      sym (length-map ps (λ p. p.lines.items)) ∙ ap length are ∙ length-map-range_with_len (program s) 0 s.shape.clients
+
+  program-at : (r : ℕ) → r < s.shape.clients → (p : Program) × (slice_get ps r ≡ Some p)
+  program-at r lt = elim (slice_get_cases ps r).1 [
+    | inl there ↦ (there.0, there.2)
+    | inr past ↦ absurd (omega (arith, past.0, length-programs))
+  ]
+
+  module _ (r : ℕ) (p : Program) (at : slice_get ps r ≡ Some p) where
+    pub program-within : r < s.shape.clients
+    program-within = omega (arith, slice_get_within ps r p at, length-programs)
+
+    pub lines-at : p.lines.items ≡ program s r
+    lines-at =
+        let lines = λ (q : Program). q.lines.items in
+        let here = slice_get-map lines ps r ∙ ap (option_map lines) at in
+        let range = slice_get-range 0 s.shape.clients r program-within ∙ ap Some (zero-add r) in
+        let there = slice_get-map (program s) (range_with_len 0 s.shape.clients) r ∙ ap (option_map (program s)) range in
+        same_Some p.lines.items (program s r) (sym here ∙ ap (λ (ls : List (List ℕ)). slice_get ls r) are ∙ there)
+
+    pub place-at : slice_index (map (λ q. q.place) ps) r ≡ p.place
+    place-at =
+        let place = λ (q : Program). q.place in
+        get_or_from_slice_get (map place ps) r p.place 0 (slice_get-map place ps r ∙ ap (option_map place) at)
+
+    -- the client's next line is that of its program
+    pub next_of-at : (k : ℕ) → next_of p ≡ next_in (places_of s ps k) r
+    next_of-at k = ap (λ (ls : List ℕ). slice_get ls p.place) lines-at ∙ ap (slice_get (program s r)) (sym place-at)
+
+  module _ (job : IsJob s) (k : ℕ) where
+    next-phase : (r n : ℕ) → next_in (places_of s ps k) r ≡ Some n → Contains (next_phases s ps) (phase s n)
+    next-phase r n next =
+        let here = program-at r (next_in-within (places_of s ps k) r n job next) in
+        next_phases-at s ps r here.0 n here.1 (next_of-at r here.0 here.1 k ∙ next)
+
+    -- where no line comes next the run may be in any phase
+    pub IsInPhase-none : next_phases s ps ≡ [] → IsInPhase (places_of s ps k)
+    IsInPhase-none none =
+        let v = places_of s ps k in
+        let never : (r n : ℕ) → next_in v r ≡ Some n → ⊥ = λ r n next. (let there = subst (λ (ks : List ℕ). Contains ks (phase s n)) none (next-phase r n next) in omega (arith, there.1)) in
+        record { none_earlier = λ r n next. absurd (never r n next); none_left = λ empty r lt. none-from (next_in v r) (never r) }
+
+    -- in the least phase of the next lines
+    module _ (least : IsLeast (next_phases s ps) k) where
+      -- some client goes
+      pub Goes-least : (r : ℕ) × (n : ℕ) × (r < s.shape.clients) × Goes (places_of s ps k) r n
+      Goes-least =
+          let from = next_phases-from s ps k least.there in
+          let next = sym (next_of-at from.0 from.1 from.3 k) ∙ from.4 in
+          (from.0, from.2, program-within from.0 from.1 from.3, record { next = next; of_phase = from.5 })
+
+      pub going-least : going (places_of s ps k) ≡ [] → ⊥
+      going-least empty = none-goes (places_of s ps k) Goes-least.0 Goes-least.1 empty Goes-least.2 Goes-least.3
+
+      pub IsInPhase-least : IsInPhase (places_of s ps k)
+      IsInPhase-least = IsInPhase-from_some (places_of s ps k)
+          (λ r n next. All-contains (λ x. k ≤ x) (next_phases s ps) (phase s n) least.least (next-phase r n next)) going-least
+
+  -- before the first answer the run is in the least phase of the first lines
+  pub IsInPhase-first : (o : Option ℕ) → IsJob s → IfNone o (next_phases s ps ≡ []) → IfSome o (IsLeast (next_phases s ps))
+      → IsInPhase (places_of s ps (unwrap_or o 0))
+  IsInPhase-first None job none least = IsInPhase-none job 0 none
+  IsInPhase-first (Some k) job none least = IsInPhase-least job k least
+
+  -- and in phase 0 where there is none
+  pub phase-first : (o : Option ℕ) → IsJob s → IfSome o (IsLeast (next_phases s ps)) → going (places_of s ps (unwrap_or o 0)) ≡ []
+      → unwrap_or o 0 ≡ 0
+  phase-first None job least empty = refl
+  phase-first (Some k) job least empty = absurd (going-least job k least empty)
