@@ -15,6 +15,7 @@ pub mod JournalGrows
 pub mod InReach
 pub mod Refused
 pub mod Cases
+mod TableCases
 pub mod Jobs
 pub mod Programs
 pub mod AnsweredLines

@@ -1,0 +1,87 @@
+-- Rows of the table of answers at a path with one version, worked out by hand: what a frozen file, no file, and a file
+-- that is there allow and refuse.
+use Rattle.std.proofs.Common.{ℕ, List, [], ◌∷◌, Some, None, true, false, refl, arith}
+use Rattle.std.specs.Prelude.{codes}
+use Rattle.std.proofs.lemmas.Bool.{false≢true, true≢false}
+use Rattle.fs_types.specs.declared.answer.Answer.TheVariants as answers
+use Rattle.fs_types.specs.declared.limits.TheConstants.{LONGEST_FILE}
+use Rattle.fs_types.specs.PlainFile.{File}
+use Rattle.fs_script.specs.declared.line.Op.{Op}
+use Rattle.fs_script.specs.declared.line.Op.TheVariants as ops
+use Rattle.fs_script.specs.declared.line.Data.TheVariants.{Text}
+use Rattle.fs_script.specs.Fits.{LineView, IsInTable}
+
+-- line 4, which knows of the one version of its path, with this file there and these lines pending
+abbrev view : File ℕ → List ℕ → LineView
+view f q = record { number = 4; journal = 2 ∷ []; file = λ v. f; front = 1; pending = q; chunk = 64 }
+
+abbrev frozen_file : File ℕ
+frozen_file = Some (record { cells = codes "hello"; frozen = true })
+
+abbrev open_file : File ℕ
+open_file = Some (record { cells = codes "hello"; frozen = false })
+
+abbrev write : Op
+write = ops.Write 0 (Text (codes "hi"))
+
+module _ (compared : Type 0) where
+  -- ---- a frozen file
+
+  sync_of_something_is_readonly : IsInTable compared (view frozen_file (3 ∷ [])) ops.Sync (answers.ReadOnly 0)
+  sync_of_something_is_readonly = (refl, tt, refl)
+
+  sync_of_nothing_is_not_readonly : IsInTable compared (view frozen_file []) ops.Sync (answers.ReadOnly 1) → ⊥
+  sync_of_nothing_is_not_readonly row = false≢true row.0
+
+  sync_of_nothing_is_done : IsInTable compared (view frozen_file []) ops.Sync (answers.Done 1)
+  sync_of_nothing_is_done = (refl, refl)
+
+  write_is_readonly : IsInTable compared (view frozen_file []) write (answers.ReadOnly 1)
+  write_is_readonly = (refl, refl, refl)
+
+  -- a write prints the version that its client knows of, and no other
+  write_is_not_readonly_before_the_front : IsInTable compared (view frozen_file []) write (answers.ReadOnly 0) → ⊥
+  write_is_not_readonly_before_the_front row = omega (arith, row.1)
+
+  write_is_not_accepted : IsInTable compared (view frozen_file []) write (answers.Wrote 1) → ⊥
+  write_is_not_accepted row = false≢true row.0
+
+  write_is_not_too_big : IsInTable compared (view frozen_file []) (ops.Write LONGEST_FILE (Text (codes "hi"))) answers.TooBig → ⊥
+  write_is_not_too_big row = false≢true row.0
+
+  read_is_not_readonly : IsInTable compared (view frozen_file []) (ops.Read 0 5) (answers.ReadOnly 1) → ⊥
+  read_is_not_readonly row = false≢true row.0
+
+  unfrozen_is_not_readonly : IsInTable compared (view open_file []) write (answers.ReadOnly 1) → ⊥
+  unfrozen_is_not_readonly row = false≢true row.2
+
+  -- ---- no file
+
+  write_finds_no_file : IsInTable compared (view None []) write (answers.NoEnt 1)
+  write_finds_no_file = (refl, refl, refl)
+
+  write_finds_no_file_at_its_front_alone : IsInTable compared (view None []) write (answers.NoEnt 0) → ⊥
+  write_finds_no_file_at_its_front_alone row = omega (arith, row.1)
+
+  read_finds_no_file : IsInTable compared (view None []) (ops.Read 0 5) (answers.NoEnt 0)
+  read_finds_no_file = (refl, tt, refl)
+
+  create_wants_no_file : IsInTable compared (view None []) ops.Create (answers.NoEnt 1) → ⊥
+  create_wants_no_file row = false≢true row.0
+
+  nothing_exists : IsInTable compared (view None []) ops.Create (answers.Exists 1) → ⊥
+  nothing_exists row = false≢true row.1
+
+  -- ---- a file that is there
+
+  file_exists : IsInTable compared (view open_file []) ops.Create (answers.Exists 1)
+  file_exists = (refl, refl)
+
+  write_past_the_end_is_too_big : IsInTable compared (view open_file []) (ops.Write LONGEST_FILE (Text (codes "hi"))) answers.TooBig
+  write_past_the_end_is_too_big = (refl, omega arith)
+
+  write_wants_a_file : IsInTable compared (view open_file []) write (answers.Exists 1) → ⊥
+  write_wants_a_file row = false≢true row.0
+
+  file_is_found : IsInTable compared (view open_file []) write (answers.NoEnt 1) → ⊥
+  file_is_found row = true≢false row.2
