@@ -1,5 +1,5 @@
 -- Clients whose lines were answered up to a place of their programs: the line that comes next, and what an answer changes.
-use Rattle.std.proofs.Common.{◌≡◌, ◌≢◌, ℕ, ◌+◌, ◌<◌, List, length, Option, Some, None, IsSome, is_some, ltb, slice_get, sym, ap, ◌∙◌, subst, refl, inl, inr, arith}
+use Rattle.std.proofs.Common.{◌≡◌, ◌≢◌, ℕ, ◌+◌, ◌<◌, length, Option, Some, None, IsSome, is_some, slice_get, sym, ap, ◌∙◌, subst, refl, inl, inr, arith}
 use Rattle.std.proofs.lemmas.Bool.{cases_eq, ltb-true, lt-ltb, le-ltb}
 use Rattle.std.proofs.lemmas.Bool.Decides.{nat_tests}
 use Rattle.std.proofs.lemmas.Option.{same_Some, none-some}
@@ -8,7 +8,7 @@ use Rattle.fs_script.specs.declared.line.OpLine.{OpLine}
 use Rattle.fs_script.specs.Job.{Job, op_at, rank_in, rank_at, is_of_rank, program}
 use Rattle.fs_script.specs.Pending.{Answering}
 use Rattle.fs_script.specs.Growth.{AddsAnswer, ComesNext}
-use Rattle.fs_script.proofs.CallerLemmas.{none_from-is_some, some_of, passing-rise, passing-places, program-place, program-op}
+use Rattle.fs_script.proofs.CallerLemmas.{none_from-is_some, passing-rise, passing-places, program-place, program-op}
 use Rattle.core_machine.specs.LegalSoFar.{IsAnsweredUpTo}
 
 -- client r's lines were answered up to the place, where line n stands

@@ -1,5 +1,5 @@
 -- When an answer to a client's line, and what is kept after it, are those of the machine's event.
-use Rattle.std.specs.Prelude.{◌≡◌, ℕ, ◌≤◌, ◌||◌, List, ◌∷◌, [], ◌++◌, length, Some, slice_set, if◌then◌else◌}
+use Rattle.std.specs.Prelude.{◌≡◌, ℕ, ◌≤◌, ◌||◌, ◌∷◌, [], ◌++◌, length, Some, slice_set, if◌then◌else◌}
 use Rattle.std.specs.List.{slice_get}
 use Rattle.fs_types.specs.declared.answer.Answer.{Answer}
 use Rattle.fs_script.specs.declared.line.Op.{Op}

@@ -54,7 +54,11 @@ fn five_lines_leave_a_file(rt: HostRuntime) -> Result<(), Fail> {
     assert_eq!(rt; core.journal(&b), [LineNo(2), LineNo(4)].as_slice());
     assert!(rt; is_hello(&core.file(&b)?));
     let answers = core.into_answers();
-    assert!(rt; answers.get(LineNo(5)).is_some_and(|a| matches!(a, Answer::BadF)));
+    assert!(rt;
+        answers
+            .get(LineNo(5))
+            .is_some_and(|a| matches!(a, Answer::BadF))
+    );
     Ok(())
 }
 

@@ -1,10 +1,7 @@
 -- What an answer to the line that comes next changes of what its client knows, as seen from the script's end.
-use Rattle.std.proofs.Common.{◌≡◌, ℕ, zero, suc, ◌+◌, ◌-◌, ◌≤◌, ◌<◌, Bool, List, [], ◌∷◌, Option, Some, None, IsSome, is_some, true≢false, refl, sym, ap, ◌∙◌, subst, inl, inr, arith}
+use Rattle.std.proofs.Common.{◌≡◌, ℕ, zero, suc, ◌+◌, ◌-◌, ◌≤◌, Bool, List, [], ◌∷◌, Option, Some, None, IsSome, is_some, true≢false, refl, sym, ap, ◌∙◌, arith}
 use Rattle.std.specs.List.{AllByRecursion}
-use Rattle.std.proofs.lemmas.Bool.{cases_eq, cases_lt, cases_order}
-use Rattle.std.proofs.lemmas.Option.{none-some}
 use Rattle.fs_types.specs.declared.answer.Answer.{Answer}
-use Rattle.fs_types.specs.PlainFile.{File}
 use Rattle.fs_script.specs.declared.line.Op.{Op}
 use Rattle.fs_script.specs.Job.{Job, own_at, rank_at}
 use Rattle.fs_script.specs.Payload.{bytes_of}
@@ -12,7 +9,7 @@ use Rattle.fs_script.specs.Pending.{Answering, pending, after}
 use Rattle.fs_script.specs.Front.{seen, seen_after, is_open, open_after}
 use Rattle.fs_script.specs.Effect.{state}
 use Rattle.fs_script.specs.Growth.{AddsAnswer, ComesNext, AgreeBefore, SamePending}
-use Rattle.fs_script.proofs.CallerLemmas.{pending-agree, seen-agree, is_open-agree, state_in-agree, AgreeBefore-next, pending_at-answered, some_of}
+use Rattle.fs_script.proofs.CallerLemmas.{state_in-agree, pending_at-answered, some_of}
 
 -- ---- a client and a path that the line is not of
 

@@ -1,19 +1,18 @@
 -- A client's part of a path after an event: of the client whose line it is, and of every other.
-use Rattle.std.proofs.Common.{◌≡◌, ℕ, suc, ◌+◌, ◌-◌, ◌≤◌, ◌<◌, max, Bool, cond, List, length, Option, Some, None, IsSome, ◌||◌, refl, sym, ap, ◌∙◌, subst, arith}
-use Rattle.std.specs.List.{AllByRecursion}
+use Rattle.std.proofs.Common.{◌≡◌, ℕ, suc, ◌≤◌, ◌<◌, Bool, List, length, Some, None, ◌||◌, sym, ap, ◌∙◌, subst, arith}
 use Rattle.fs_types.specs.declared.answer.Answer.{Answer}
 use Rattle.fs_script.specs.declared.line.OpLine.{OpLine}
-use Rattle.fs_script.specs.Job.{Job, op_at, own_at, rank_at, rank_in, phase}
+use Rattle.fs_script.specs.Job.{Job, own_at}
 use Rattle.fs_script.specs.AnswerKinds.{version_of}
 use Rattle.fs_script.specs.Pending.{Answering, pending, after_answer, after}
 use Rattle.fs_script.specs.Effect.{state}
 use Rattle.fs_script.specs.Front.{is_open, seen, opens, at_least, seen_after, open_after}
-use Rattle.fs_script.specs.Growth.{AddsAnswer, ComesNext}
+use Rattle.fs_script.specs.Growth.{AddsAnswer}
 use Rattle.fs_script.proofs.CallerLemmas.{pending-agree, seen-agree, is_open-agree, AgreeBefore-next}
 use Rattle.core_machine.specs.declared.path_state.OwnedPath.{OwnedPath}
 use Rattle.core_machine.specs.declared.path_state.ClientPath.{ClientPath}
 use Rattle.core_machine.specs.Event.{known_of}
-use Rattle.core_machine.specs.Kept.{AreSound, file_of, known_from, pending_lines}
+use Rattle.core_machine.specs.Kept.{AreSound, known_from}
 use Rattle.core_machine.specs.Follows.{Follows, kept_event, Knows}
 use Rattle.core_machine.specs.Standing.{StandsForOwner, StandsForClient, end_of}
 use Rattle.core_machine.proofs.Refines.Answers.{AgreeBefore-elsewhere, IsOpenFrom, IsOpenFrom-answered, pending-until, seen-until, is_open-until}

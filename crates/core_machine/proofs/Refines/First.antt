@@ -1,15 +1,14 @@
 -- What is kept before the first event, and that the moment it stands for is the first.
-use Rattle.std.proofs.Common.{◌≡◌, ℕ, zero, suc, ◌+◌, false, List, [], ◌∷◌, length, map, Option, Some, None, IsSome, is_some, slice_index, All, true≢false, refl, sym, ap, subst, ◌∙◌, arith}
+use Rattle.std.proofs.Common.{◌≡◌, ℕ, zero, suc, ◌+◌, false, List, [], ◌∷◌, length, map, is_some, slice_index, All, true≢false, refl, sym, ap, subst, ◌∙◌, arith}
 use Rattle.std.specs.Prelude.{zip, replicate}
-use Rattle.std.specs.List.{slice_get, AllByRecursion}
+use Rattle.std.specs.List.{AllByRecursion}
 use Rattle.std.proofs.lemmas.Bool.{le-ltb}
 use Rattle.std.proofs.lemmas.List.{length-map, length-replicate, get_or-replicate}
 use Rattle.std.proofs.lemmas.List.Elements.{recursion_from_All}
 use Rattle.std.proofs.lemmas.Option.{slice_get_within, get_or_from_slice_get}
 use Rattle.fs_types.specs.AnswerList.{Given, answer_at}
-use Rattle.fs_script.specs.Job.{Job, phase}
-use Rattle.fs_script.specs.Pending.{Answering, pending}
-use Rattle.fs_script.specs.Front.{is_open, seen}
+use Rattle.fs_script.specs.Job.{Job}
+use Rattle.fs_script.specs.Pending.{Answering}
 use Rattle.fs_script.specs.Grammar.{IsJob}
 use Rattle.fs_script.specs.Report.{ArePaths}
 use Rattle.core_machine.specs.declared.path_state.OwnedPath.{OwnedPath}
@@ -18,7 +17,7 @@ use Rattle.core_machine.specs.declared.path_state.PathState.{PathState}
 use Rattle.core_machine.specs.Kept.{IsFreshOwner, IsFreshClient, IsFreshPath}
 use Rattle.core_machine.specs.Moment.{IsFirst}
 use Rattle.core_machine.specs.Turns.{Places}
-use Rattle.core_machine.specs.MomentKept.{client_at, journals_of, moment_of}
+use Rattle.core_machine.specs.MomentKept.{client_at, moment_of}
 use Rattle.core_machine.specs.Standing.{Holds, Stands, StandsForOwner, StandsForClient, end_of}
 use Rattle.core_machine.proofs.Refines.Answers.{pending-until, seen-until, is_open-until}
 use Rattle.core_machine.proofs.Refines.Journals.{journal_kept}

@@ -1,25 +1,23 @@
 -- The moment that is kept after a line was answered is the machine's next one.
-use Rattle.std.proofs.Common.{◌≡◌, ℕ, zero, suc, ◌+◌, Bool, true, false, cond, List, [], ◌∷◌, length, set, get_or, map, Option, Some, None, is_some, slice_index, refl, sym, ap, ◌∙◌, subst}
+use Rattle.std.proofs.Common.{◌≡◌, ℕ, ◌+◌, false, List, set, get_or, map, Some, slice_index, refl, sym, ap, ◌∙◌}
 use Rattle.std.specs.List.{slice_get}
 use Rattle.std.proofs.Math.ListN.{get_or-map}
 use Rattle.fs_types.specs.declared.answer.Answer.{Answer}
-use Rattle.fs_types.specs.AnswerList.{Given, answer_at, put_answer}
-use Rattle.fs_script.specs.declared.line.OpLine.{OpLine}
-use Rattle.fs_script.specs.Job.{Job, op_at, program}
+use Rattle.fs_types.specs.AnswerList.{Given, put_answer}
+use Rattle.fs_script.specs.Job.{Job, program}
 use Rattle.fs_script.specs.Report.{journal_of}
 use Rattle.core_machine.specs.declared.path_state.PathState.{PathState}
-use Rattle.core_machine.specs.Doing.{Doing, nothing}
-use Rattle.core_machine.specs.Moment.{Client, Moment, fresh_client, client_of, next_line, with_entry}
+use Rattle.core_machine.specs.Doing.{nothing}
+use Rattle.core_machine.specs.Moment.{Client, Moment, fresh_client, client_of, next_line}
 use Rattle.core_machine.specs.Event.{Event, PathNow}
 use Rattle.core_machine.specs.Step.{event_of, event_at, with_answer, after_turn, after_event, step, step_at, step_line, path_now}
-use Rattle.core_machine.specs.Kept.{kept_now}
 use Rattle.core_machine.specs.Follows.{kept_event}
 use Rattle.core_machine.specs.Turns.{Places}
 use Rattle.core_machine.specs.MomentKept.{client_at, journals_of, moment_of, after_line}
 use Rattle.core_machine.proofs.Paths.{journal_of-zip}
 use Rattle.core_machine.proofs.Refines.Journals.{map-set, slice_get-map, journal_kept, journals_of-set}
 use Rattle.core_machine.proofs.Refines.Now.{kept_now-is}
-use Rattle.core_machine.proofs.Refines.Steps.{Answered, given, is_own, stood, client_stood, rank-is}
+use Rattle.core_machine.proofs.Refines.Steps.{Answered, given, is_own, stood, client_stood}
 
 -- ---- clients
 

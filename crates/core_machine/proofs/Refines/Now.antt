@@ -1,13 +1,13 @@
 -- What the event of a line sees is what is kept for its path and its client.
-use Rattle.std.proofs.Common.{◌≡◌, ℕ, ◌+◌, ◌-◌, ◌≤◌, max, Bool, true, false, cond, leb, List, length, refl, sym, ap, ◌∙◌, subst, arith}
+use Rattle.std.proofs.Common.{◌≡◌, ℕ, max, leb, refl, sym, ap, ◌∙◌, arith}
 use Rattle.std.specs.Prelude.{nat_lt, count_by}
 use Rattle.std.proofs.lemmas.Bool.{cond_both, leb-true}
 use Rattle.std.proofs.lemmas.Bool.Decides.{nat_tests}
 use Rattle.fs_script.specs.declared.line.OpLine.{OpLine}
 use Rattle.fs_script.specs.Job.{Job, phase}
-use Rattle.fs_script.specs.Pending.{Answering, pending}
+use Rattle.fs_script.specs.Pending.{Answering}
 use Rattle.fs_script.specs.Effect.{state}
-use Rattle.fs_script.specs.Front.{is_open, seen, front, of_earlier_phases}
+use Rattle.fs_script.specs.Front.{seen, front, of_earlier_phases}
 use Rattle.core_machine.specs.declared.noted.Noted.{Noted}
 use Rattle.core_machine.specs.declared.path_state.OwnedPath.{OwnedPath}
 use Rattle.core_machine.specs.declared.path_state.ClientPath.{ClientPath}

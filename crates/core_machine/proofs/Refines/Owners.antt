@@ -1,5 +1,5 @@
 -- The owner's part of a path after an event: of another path, and of the line's own.
-use Rattle.std.proofs.Common.{◌≡◌, ℕ, suc, ◌+◌, ◌≤◌, ◌<◌, Bool, true, false, cond, List, [], ◌∷◌, ◌++◌, length, Option, Some, IsSome, is_some, nat_lt, count_by, refl, sym, ap, ◌∙◌, subst, inl, inr, arith, le-ltb}
+use Rattle.std.proofs.Common.{◌≡◌, ℕ, ◌+◌, ◌≤◌, Bool, true, false, cond, List, [], ◌∷◌, ◌++◌, length, Option, Some, IsSome, is_some, nat_lt, count_by, refl, sym, ap, ◌∙◌, subst, inl, inr, arith, le-ltb}
 use Rattle.std.specs.List.{AllByRecursion}
 use Rattle.std.proofs.lemmas.Bool.{cases_eq}
 use Rattle.std.proofs.lemmas.List.{length_push}

@@ -1,5 +1,5 @@
 -- What is read of a path in what the core keeps: its journal and its file at the moment.
-use Rattle.std.proofs.Common.{◌≡◌, ℕ, ◌<◌, List, [], length, map, get_or, Some, None, false, sym, ap, ◌∙◌, arith}
+use Rattle.std.proofs.Common.{◌≡◌, ℕ, List, [], length, map, get_or, Some, None, false, sym, ap, ◌∙◌, arith}
 use Rattle.std.specs.List.{slice_get, Contains}
 use Rattle.std.proofs.lemmas.Option.{slice_get_within}
 use Rattle.fs_types.specs.AnswerList.{Given, answer_at}

@@ -1,5 +1,5 @@
 -- One event of the machine is one line answered by what the core keeps.
-use Rattle.std.proofs.Common.{◌≡◌, ◌≢◌, ℕ, ◌+◌, ◌-◌, ◌<◌, ◌≤◌, Bool, true, false, cond, List, [], ◌∷◌, length, set, slice_index, map, Option, Some, None, IsSome, is_some, refl, sym, ap, subst, ◌∙◌, arith, inl, inr, true≢false, nat_eq, eq-eqb}
+use Rattle.std.proofs.Common.{◌≡◌, ◌≢◌, ℕ, ◌+◌, ◌<◌, ◌≤◌, Bool, false, cond, List, length, set, slice_index, Some, None, IsSome, is_some, refl, sym, ap, subst, ◌∙◌, arith, inl, inr, nat_eq, eq-eqb}
 use Rattle.std.specs.Prelude.{◌&&◌}
 use Rattle.std.specs.List.{slice_get}
 use Rattle.std.specs.Str.{bytes_eq}
@@ -18,9 +18,9 @@ use Rattle.core_machine.specs.declared.path_state.PathState.{PathState}
 use Rattle.core_machine.specs.declared.path_state.ClientPath.{ClientPath}
 use Rattle.core_machine.specs.Kept.{AreSound, pending_lines}
 use Rattle.core_machine.specs.Follows.{Follows, kept_event}
-use Rattle.core_machine.specs.Turns.{Places, next_in}
+use Rattle.core_machine.specs.Turns.{Places}
 use Rattle.core_machine.specs.LegalSoFar.{IsAnsweredUpTo}
-use Rattle.core_machine.specs.MomentKept.{moment_of, after_line}
+use Rattle.core_machine.specs.MomentKept.{after_line}
 use Rattle.core_machine.specs.Standing.{Holds, Stands, StandsForOwner, StandsForClient, end_of}
 use Rattle.core_machine.proofs.Paths.{place_unique, other_bytes}
 use Rattle.core_machine.proofs.Places.{StandsNext, comes_next, upto-own, upto-other}

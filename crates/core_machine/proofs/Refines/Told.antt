@@ -1,5 +1,5 @@
 -- The end of a phase: all clients are told of every path, and all that is kept goes on holding in the next phase.
-use Rattle.std.proofs.Common.{◌≡◌, ℕ, zero, suc, ◌≤◌, ◌<◌, Bool, true, false, cond, List, [], ◌∷◌, ◌++◌, length, map, take, drop, set, get_or, Option, Some, None, IsSome, is_some, Vec, nat_lt, count_by, slice_index, refl, sym, ap, ◌∙◌, subst, arith, add-one}
+use Rattle.std.proofs.Common.{◌≡◌, ℕ, zero, suc, ◌<◌, Bool, false, cond, List, [], ◌∷◌, ◌++◌, length, map, take, drop, set, get_or, Option, Some, None, IsSome, is_some, Vec, nat_lt, count_by, slice_index, refl, sym, ap, ◌∙◌, subst, arith}
 use Rattle.std.specs.Prelude.{zip}
 use Rattle.std.specs.List.{slice_get, AllByRecursion}
 use Rattle.std.proofs.lemmas.Bool.{lt-ltb}
@@ -13,7 +13,7 @@ use Rattle.core_machine.specs.declared.extent.Extent.{Extent}
 use Rattle.core_machine.specs.declared.path_state.OwnedPath.{OwnedPath}
 use Rattle.core_machine.specs.declared.path_state.PathState.{PathState}
 use Rattle.core_machine.specs.Event.{known_of}
-use Rattle.core_machine.specs.Kept.{file_of, known_from, board_now, told}
+use Rattle.core_machine.specs.Kept.{file_of, board_now, told}
 use Rattle.core_machine.specs.Turns.{Places}
 use Rattle.core_machine.specs.LegalSoFar.{IsAnsweredUpTo}
 use Rattle.core_machine.specs.MomentKept.{client_at, moment_of}

@@ -1,4 +1,4 @@
-use Rattle.std.proofs.Common.{◌≡◌, length, subst, arith}
+use Rattle.std.proofs.Common.{◌≡◌, length, arith}
 use Rattle.core_machine.proofs.Refines.First.{Holds-first, IsFirst-first}
 use Rattle.core_machine.proofs.run.first_run.Goals as goal
 
@@ -17,4 +17,4 @@ returns-clause-run c =
 pub returns-clause-first : goal.returns-clause-first
 returns-clause-first c =
     IsFirst-first c.args.s.now c.in_ok-paths.paths c.in_ok-states.states.items c.in_ok-answers.answers c.in_ok-turns.turns c.in_ok-paths.ensures
-        (omega (arith, c.in_ok-states.ensures.0, c.len.ensures.len)) (rw (← c.shape.ensures.shape) c.in_ok-states.ensures.1) c.in_ok-answers.ensures.0 c.in_ok-turns.ensures.places
+    (omega (arith, c.in_ok-states.ensures.0, c.len.ensures.len)) (rw (← c.shape.ensures.shape) c.in_ok-states.ensures.1) c.in_ok-answers.ensures.0 c.in_ok-turns.ensures.places

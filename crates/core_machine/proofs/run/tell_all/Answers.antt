@@ -1,6 +1,5 @@
-use Rattle.std.proofs.Common.{◌≡◌, ℕ, ◌+◌, ◌++◌, suc, List, [], length, map, take, drop, set, get_or, refl, sym, ap, ◌∙◌, subst, arith, add-one, append-nil}
+use Rattle.std.proofs.Common.{◌++◌, map, take, drop, set, get_or, refl, sym, ap, ◌∙◌, add-one, append-nil}
 use Rattle.std.proofs.lemmas.List.{take_all, drop_all}
-use Rattle.core_machine.specs.declared.path_state.PathState.{PathState}
 use Rattle.core_machine.specs.Kept.{told}
 use Rattle.core_machine.proofs.Refines.Told.{tell-next}
 use Rattle.core_machine.proofs.run.tell_all.Goals as goal

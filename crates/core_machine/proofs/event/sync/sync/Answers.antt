@@ -1,4 +1,4 @@
-use Rattle.std.proofs.Common.{rules, true, cond, ◌≡◌, ◌+◌, ◌∙◌, sym, ap, refl, arith, length, List, [], ◌∷◌, ◌++◌}
+use Rattle.std.proofs.Common.{rules, true, cond, ◌≡◌, ◌∙◌, sym, ap, arith, ◌++◌}
 use Rattle.std.proofs.lemmas.Grind.{common_steps}
 use Rattle.fs_script.specs.declared.line.Op.TheVariants.{Sync}
 use Rattle.fs_script.specs.Payload.{bytes_of}
