@@ -1,8 +1,7 @@
 -- Runs that go on by one event, and the journals that they leave.
-use Rattle.std.proofs.Common.{◌≡◌, ℕ, zero, suc, ◌+◌, ◌≤◌, false, cond, List, [], ◌∷◌, ◌++◌, length, map, take, Option, Some, None, refl, sym, ap, subst, ◌∙◌, arith}
+use Rattle.std.proofs.Common.{◌≡◌, ℕ, zero, suc, false, cond, List, [], ◌∷◌, ◌++◌, map, Option, Some, None, refl, sym, ap, subst, ◌∙◌}
 use Rattle.std.specs.List.{slice_get, Contains}
 use Rattle.std.specs.Str.{bytes_eq}
-use Rattle.std.proofs.lemmas.List.{take_all}
 use Rattle.std.proofs.lemmas.Option.{same_Some}
 use Rattle.fs_types.specs.PathText.{IsPath}
 use Rattle.fs_script.specs.Grammar.{IsJob}
@@ -45,21 +44,6 @@ entry-at (k ∷ ks) zero p j rising at is =
 entry-at (k ∷ ks) (suc i) p j rising at is =
     let other : bytes_eq k.0 p ≡ false = other_bytes k.0 p (λ e. not_among k.0 (map (λ l. l.0) ks) i rising.0 (at ∙ ap Some (sym e))) in
     entry-at ks i p j rising.1 at (is ∙ ap (λ b. cond b k.1 (journal_of ks p)) other)
-
--- one more of a list
-pub take-get : {X : Type 0} (xs : List X) (i : ℕ) (x : X) → slice_get xs i ≡ Some x → take (i + 1) xs ≡ take i xs ++ x ∷ []
-take-get [] i x at = absurd cc
-take-get (y ∷ ys) zero x at = ap (λ z. z ∷ []) (same_Some y x at)
-take-get (y ∷ ys) (suc i) x at = let e : suc i + 1 ≡ suc (i + 1) = omega arith in ap (λ k. take k (y ∷ ys)) e ∙ ap (λ zs. y ∷ zs) (take-get ys i x at)
-
-pub slice_get-map : {X Y : Type 0} (f : X → Y) (xs : List X) (i : ℕ) (x : X) → slice_get xs i ≡ Some x → slice_get (map f xs) i ≡ Some (f x)
-slice_get-map f [] i x at = absurd cc
-slice_get-map f (y ∷ ys) zero x at = ap (λ z. Some (f z)) (same_Some y x at)
-slice_get-map f (y ∷ ys) (suc i) x at = slice_get-map f ys i x at
-
--- a list of which all was taken
-pub take-whole : {X : Type 0} (xs : List X) (n : ℕ) → length xs ≤ n → take n xs ≡ xs
-take-whole xs n le = take_all n xs le
 
 -- the paths that a job names are in the grammar
 pub IsPath-named : (s : Job) (p : List ℕ) → IsJob s → Names s p → IsPath p

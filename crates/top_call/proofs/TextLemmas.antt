@@ -1,5 +1,5 @@
 -- The texts of lists, one element after another.
-use Rattle.std.proofs.Common.{◌≡◌, ◌≢◌, ℕ, suc, ◌+◌, ◌<◌, ◌≤◌, List, [], ◌∷◌, ◌++◌, map, Some, None, refl, sym, ap, subst, ◌∙◌, append_assoc, append-nil, arith, inl, inr, ◌⊎◌, if◌then◌else◌}
+use Rattle.std.proofs.Common.{◌≡◌, ◌≢◌, ℕ, suc, ◌+◌, ◌<◌, ◌≤◌, List, [], ◌∷◌, ◌++◌, map, Some, None, refl, sym, ap, subst, ◌∙◌, append_assoc, append-nil, arith, inl, inr, if◌then◌else◌}
 use Rattle.std.specs.Prelude.{All, codes, nat_lt}
 use Rattle.std.specs.List.{flat_map}
 use Rattle.std.proofs.lemmas.Bool.Decides.{nat_tests}
@@ -8,8 +8,8 @@ use Rattle.std.proofs.lemmas.List.Elements.{All-head, All-tail}
 use Rattle.fs_types.specs.AnswerList.{answer_at, IsRisingFrom}
 use Rattle.fs_types.specs.declared.answer.Answer.{Answer}
 use Rattle.fs_types.proofs.CallerLemmas.{answer_at-same, answer_at-other, cases_line, answer_at-rising_below}
-use Rattle.fs_script.specs.Text.{path_lines, answer_line, line_feed, text}
-use Rattle.top_call.specs.JobReport.{path_text, report_view}
+use Rattle.fs_script.specs.Text.{path_lines, answer_line, text}
+use Rattle.top_call.specs.JobReport.{path_text, journal_entry, file_entry, report_view}
 use Rattle.top_call.specs.declared.report.JobReport.{JobReport}
 use Rattle.top_call.specs.declared.report.PathReport.{PathReport}
 
@@ -88,35 +88,43 @@ below-unanswered ((i, b) ∷ xs) n e = elim (cases_line n i) [
 ]
 
 -- the text of the answers below a line, and the line of its answer
-pub lines-answered : (front old new : List ℕ) (xs : List (ℕ × Answer)) (n : ℕ) (a : Answer) → IsRisingFrom 1 xs → answer_at xs n ≡ Some a → old ≡ front ++ flat_map answer_line (answers_below n xs) → new ≡ old ++ answer_line (n, a) → new ≡ front ++ flat_map answer_line (answers_below (n + 1) xs)
-lines-answered front old new xs n a h e o w =
-    w ∙ ap (λ t. t ++ answer_line (n, a)) o ∙ flat_map_more answer_line front (answers_below n xs) (n, a) ∙ ap (λ ys. front ++ flat_map answer_line ys) (sym (below-answered xs 1 n a h e))
+pub lines-answered : (front old new : List ℕ) (xs : List (ℕ × Answer)) (n : ℕ) (a : Answer)
+    → IsRisingFrom 1 xs → answer_at xs n ≡ Some a
+    → old ≡ front ++ flat_map answer_line (answers_below n xs) → new ≡ old ++ answer_line (n, a)
+    → new ≡ front ++ flat_map answer_line (answers_below (n + 1) xs)
+lines-answered front old new xs n a rising found so_far written =
+    rw (written, so_far, below-answered xs 1 n a rising found)
+    (flat_map_more answer_line front (answers_below n xs) (n, a))
 
 -- the text of the answers below a line that isn't answered
-pub lines-unanswered : (front old new : List ℕ) (xs : List (ℕ × Answer)) (n : ℕ) → answer_at xs n ≡ None → old ≡ front ++ flat_map answer_line (answers_below n xs) → new ≡ old → new ≡ front ++ flat_map answer_line (answers_below (n + 1) xs)
-lines-unanswered front old new xs n e o w =
-    w ∙ o ∙ ap (λ ys. front ++ flat_map answer_line ys) (sym (below-unanswered xs n e))
+pub lines-unanswered : (front old new : List ℕ) (xs : List (ℕ × Answer)) (n : ℕ)
+    → answer_at xs n ≡ None
+    → old ≡ front ++ flat_map answer_line (answers_below n xs) → new ≡ old
+    → new ≡ front ++ flat_map answer_line (answers_below (n + 1) xs)
+lines-unanswered front old new xs n missing so_far same =
+    rw (same, so_far, below-unanswered xs n missing) refl
 
 -- the text of the answers below a line past the last one
-pub lines-all : (front out : List ℕ) (xs : List (ℕ × Answer)) (n m : ℕ) → m < n → All (λ x. x.0 ≤ m) xs → out ≡ front ++ flat_map answer_line (answers_below n xs) → out ≡ front ++ flat_map answer_line xs
-lines-all front out xs n m l h o = o ∙ ap (λ ys. front ++ flat_map answer_line ys) (below-all xs n m l h)
+pub lines-all : (front out : List ℕ) (xs : List (ℕ × Answer)) (n m : ℕ)
+    → m < n → All (λ x. x.0 ≤ m) xs
+    → out ≡ front ++ flat_map answer_line (answers_below n xs)
+    → out ≡ front ++ flat_map answer_line xs
+lines-all front out xs n m past within so_far = so_far ∙ rw (below-all xs n m past within) refl
 
 -- no text before the first line
-pub lines-none : (front : List ℕ) (xs : List (ℕ × Answer)) → IsRisingFrom 1 xs → front ≡ front ++ flat_map answer_line (answers_below 1 xs)
-lines-none front xs h = sym (append-nil front) ∙ ap (λ ys. front ++ flat_map answer_line ys) (sym (below-none xs 1 1 (omega arith) h))
+pub lines-none : (front : List ℕ) (xs : List (ℕ × Answer)) → IsRisingFrom 1 xs
+    → front ≡ front ++ flat_map answer_line (answers_below 1 xs)
+lines-none front xs rising =
+    rw (below-none xs 1 1 (omega arith) rising) (sym (append-nil front))
 
 -- the lines of journals and files, path by path
-pub path_lines-map : (ps : List PathReport) → path_lines (map (λ p. (p.path, p.journal.items)) ps) (map (λ p. (p.path, p.state)) ps) ≡ flat_map path_text ps
+pub path_lines-map : (ps : List PathReport)
+    → path_lines (map journal_entry ps) (map file_entry ps) ≡ flat_map path_text ps
 path_lines-map [] = refl
 path_lines-map (p ∷ ps) = ap (λ t. path_text p ++ t) (path_lines-map ps)
 
 -- the parts of a report's text, one after another
-pub text-of_parts : (r : JobReport) (answers paths whole : List ℕ) → answers ≡ flat_map answer_line r.answers.list → paths ≡ answers ++ flat_map path_text r.paths.items → whole ≡ paths ++ codes "end\n" → whole ≡ text (report_view r)
-text-of_parts r answers paths whole a p w =
-    w ∙ ap (λ t. t ++ codes "end\n") (p ∙ ap (λ t. t ++ flat_map path_text r.paths.items) a ∙ ap (λ t. flat_map answer_line r.answers.list ++ t) (sym (path_lines-map r.paths.items)))
-    ∙ sym (append_assoc (flat_map answer_line r.answers.list ++ path_lines (report_view r).journals (report_view r).files) (codes "end") line_feed)
-
--- four parts, one after another
-pub four_parts : (front a b c d one two three four : List ℕ) → one ≡ front ++ a → two ≡ one ++ b → three ≡ two ++ c → four ≡ three ++ d → four ≡ front ++ (a ++ b ++ c ++ d)
-four_parts front a b c d one two three four e f g h =
-    h ∙ ap (λ t. t ++ d) (g ∙ ap (λ t. t ++ c) (f ∙ ap (λ t. t ++ b) e)) ∙ simp append_assoc
+pub text-of_parts : (r : JobReport)
+    → (flat_map answer_line r.answers.list ++ flat_map path_text r.paths.items) ++ codes "end\n"
+    ≡ text (report_view r)
+text-of_parts r = rw (← path_lines-map r.paths.items) (simp append_assoc)

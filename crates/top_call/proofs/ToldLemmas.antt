@@ -1,5 +1,5 @@
 -- Told bytes, one portion after another.
-use Rattle.std.proofs.Common.{◌≡◌, List, [], ◌++◌, ◌+◌, ℕ, take, drop, refl, ap, sym, ◌∙◌, append_assoc, append-nil}
+use Rattle.std.proofs.Common.{◌≡◌, List, [], ◌++◌, ◌+◌, ℕ, take, drop, refl, ap, sym, append_assoc, append-nil}
 use Rattle.std.specs.Prelude.{Option, None, Some}
 use Rattle.std.proofs.Math.Seq.{take-add}
 use Rattle.top_call.specs.Told.{bytes_then, then_bytes}
@@ -10,7 +10,8 @@ bytes_then-nil None = refl
 bytes_then-nil (Some rest) = refl
 
 -- two portions in a row are one
-pub bytes_then-append : (front back : List ℕ) (left : Option (List ℕ)) → bytes_then front (bytes_then back left) ≡ bytes_then (front ++ back) left
+pub bytes_then-append : (front back : List ℕ) (left : Option (List ℕ))
+    → bytes_then front (bytes_then back left) ≡ bytes_then (front ++ back) left
 bytes_then-append front back None = refl
 bytes_then-append front back (Some rest) = ap Some (sym (append_assoc front back rest))
 
@@ -20,17 +21,24 @@ then_bytes-nil None = refl
 then_bytes-nil (Some bytes) = ap Some (sym (append-nil bytes))
 
 -- two portions in a row are one
-pub then_bytes-append : (had : Option (List ℕ)) (front back : List ℕ) → then_bytes (then_bytes had front) back ≡ then_bytes had (front ++ back)
+pub then_bytes-append : (had : Option (List ℕ)) (front back : List ℕ)
+    → then_bytes (then_bytes had front) back ≡ then_bytes had (front ++ back)
 then_bytes-append None front back = refl
 then_bytes-append (Some bytes) front back = ap Some (append_assoc bytes front back)
 
 pub ruleset bytes_steps = (bytes_then-nil, bytes_then-append, then_bytes-nil, then_bytes-append)
 
 -- a source that gave some bytes and then more gave both
-pub bytes_then-portion : (had between left : Option (List ℕ)) (front back : List ℕ) → had ≡ bytes_then front between → between ≡ bytes_then back left → had ≡ bytes_then (front ++ back) left
-bytes_then-portion had between left front back e f = e ∙ ap (bytes_then front) f ∙ bytes_then-append front back left
+pub bytes_then-portion : (had between left : Option (List ℕ)) (front back : List ℕ)
+    → had ≡ bytes_then front between → between ≡ bytes_then back left
+    → had ≡ bytes_then (front ++ back) left
+bytes_then-portion had between left front back first second =
+    rw (first, second) (bytes_then-append front back left)
 
 -- a text is written portion by portion
-pub then_bytes-portion : (had between held : Option (List ℕ)) (text rest : List ℕ) (at n : ℕ) → between ≡ then_bytes had (take at text) → held ≡ then_bytes between (take n rest) → rest ≡ drop at text → held ≡ then_bytes had (take (at + n) text)
-then_bytes-portion had between held text rest at n e f r =
-    f ∙ ap (then_bytes between) (ap (take n) r) ∙ ap (λ o. then_bytes o (take n (drop at text))) e ∙ then_bytes-append had (take at text) (take n (drop at text)) ∙ ap (then_bytes had) (sym (take-add at n text))
+pub then_bytes-portion : (had between held : Option (List ℕ)) (text rest : List ℕ) (at n : ℕ)
+    → between ≡ then_bytes had (take at text) → held ≡ then_bytes between (take n rest)
+    → rest ≡ drop at text → held ≡ then_bytes had (take (at + n) text)
+then_bytes-portion had between held text rest at n first second left =
+    rw (second, first, left, take-add at n text)
+    (then_bytes-append had (take at text) (take n (drop at text)))

@@ -13,8 +13,8 @@ use Rattle.top_call.specs.declared.words.Command.{Command}
 use Rattle.top_call.specs.declared.words.Command.TheVariants.{Sim}
 use Rattle.top_call.specs.Words.{command_of}
 
--- the input is the script of a job, and what was written is the text of a report that is legal for it,
--- whichever clients' devices tell their bytes
+-- the input is the script of a job, and what was written is the text of a report that is legal for
+-- it, whichever clients' devices tell their bytes
 pub record IsReportOf (input written : List ℕ) : Type 0 where
   pub job : Job
   pub report : Report

@@ -23,7 +23,8 @@ pub record HostState (D : Type 0) : Type 0 where
   -- by name all bytes of a source, and the bytes that a sink took, where they are told
   pub contents : List ℕ → Option (List ℕ)
   pub took : List ℕ → Option (List ℕ)
-  -- the ranks for which a device was given, the last one first, and by rank the device that was taken back
+  -- the ranks for which a device was given, the last one first, and by rank the device that was
+  -- taken back
   pub given : List ℕ
   pub kept : ℕ → Option D
 
@@ -51,7 +52,8 @@ pub record RefusedTo {D : Type 0} (call : RefusedCall) (old new : HostState D) :
   pub rest : new ≡ record old { host_faults = new.host_faults; refused = Some call }
 
 -- the current source gave n bytes, and nothing else changed
-pub record ReadFrom {D : Type 0} (n : ℕ) (buffer filled : List ℕ) (old new : HostState D) : Type 0 where
+pub record ReadFrom {D : Type 0} (n : ℕ) (buffer filled : List ℕ) (old new : HostState D)
+    : Type 0 where
   pub given : IsReadOf n old.left new.left buffer filled
   pub rest : new ≡ record old { left = new.left }
 
@@ -59,15 +61,18 @@ pub record ReadFrom {D : Type 0} (n : ℕ) (buffer filled : List ℕ) (old new :
 pub record RefusedRead {D : Type 0} (buffer filled : List ℕ) (old new : HostState D) : Type 0 where
   pub risen : HasRisen old.read_faults new.read_faults
   pub unread : IsUnread old.left new.left buffer filled
-  pub rest : new ≡ record old { read_faults = new.read_faults; refused = option_map Read old.source }
+  pub rest : new
+      ≡ record old { read_faults = new.read_faults; refused = option_map Read old.source }
 
 -- the current sink took these bytes, and nothing else changed
 pub record WroteTo {D : Type 0} (bytes : List ℕ) (old new : HostState D) : Type 0 where
-  pub current : (name : List ℕ) → old.sink ≡ Some name → new.took name ≡ then_bytes (old.took name) bytes
+  pub current : (name : List ℕ) → old.sink ≡ Some name
+      → new.took name ≡ then_bytes (old.took name) bytes
   pub others : (name : List ℕ) → old.sink ≢ Some name → new.took name ≡ old.took name
   pub rest : new ≡ record old { took = new.took }
 
 -- a write to the current sink failed, and nothing else changed
 pub record RefusedWrite {D : Type 0} (old new : HostState D) : Type 0 where
   pub risen : HasRisen old.write_faults new.write_faults
-  pub rest : new ≡ record old { write_faults = new.write_faults; refused = option_map Write old.sink }
+  pub rest : new
+      ≡ record old { write_faults = new.write_faults; refused = option_map Write old.sink }

@@ -4,8 +4,10 @@ use Rattle.top_call.specs.Told.{bytes_then}
 
 -- the bytes taken from a source are more than the limit
 abbrev pub TookMoreThan : ℕ → Option (List ℕ) → Option (List ℕ) → Type 0
-TookMoreThan limit had left = (taken : List ℕ) × (had ≡ bytes_then taken left) × (limit < length taken)
+TookMoreThan limit had left =
+    (taken : List ℕ) × (had ≡ bytes_then taken left) × (limit < length taken)
 
 -- the bytes taken from a source are no more than the limit
 abbrev pub TookAtMost : ℕ → Option (List ℕ) → Option (List ℕ) → Type 0
-TookAtMost limit had left = (taken : List ℕ) × (had ≡ bytes_then taken left) × (length taken ≤ limit)
+TookAtMost limit had left =
+    (taken : List ℕ) × (had ≡ bytes_then taken left) × (length taken ≤ limit)

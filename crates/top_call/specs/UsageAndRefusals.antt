@@ -18,5 +18,6 @@ reason_text reasons.Op = codes "op"
 abbrev pub refusal_line : ScriptFault → List ℕ
 refusal_line faults.TooLong = codes "refused long" ++ line_feed
 refusal_line faults.BadHeader = codes "refused header" ++ line_feed
-refusal_line (faults.BadLine line reason) = codes "refused line=" ++ decimal line ++ codes " reason=" ++ reason_text reason ++ line_feed
+refusal_line (faults.BadLine line reason) =
+    codes "refused line=" ++ decimal line ++ codes " reason=" ++ reason_text reason ++ line_feed
 refusal_line faults.Want = []

@@ -7,5 +7,6 @@ use Rattle.top_call.specs.declared.words.Command.TheVariants.{Sim}
 
 -- exactly `sim` and a number
 abbrev pub command_of : List (List ℕ) → Option Command
-command_of (name ∷ seed ∷ []) = if bytes_eq name (codes "sim") then option_map Sim (number_of seed) else None
+command_of (name ∷ seed ∷ []) =
+    if bytes_eq name (codes "sim") then option_map Sim (number_of seed) else None
 command_of words = None

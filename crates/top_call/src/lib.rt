@@ -1,4 +1,5 @@
-//! The call that the program makes, and what it is made of: the words, the outside, a simulated job and its text.
+//! The call that the program makes, and what it is made of: the words, the outside, a simulated job
+//! and its text.
 #![tactic(auto)]
 
 mod call;

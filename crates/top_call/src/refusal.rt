@@ -29,7 +29,8 @@ fn append_bad_line(
     line: LineNo,
     reason: Reason,
 ) -> Result<(), Want>
-    ensures { OnOk result (out.new.items ≡ out.old.items ++ refusal_line (ScriptFault.BadLine line reason)) }
+    ensures { OnOk result
+        (out.new.items ≡ out.old.items ++ refusal_line (ScriptFault.BadLine line reason)) }
 {
     append_number(alloc, out, b"refused line=", u64::from(line.0))?;
     out.extend_from_slice(b" reason=")?;

@@ -41,7 +41,9 @@ pub enum SimFault {
 // The report of a script's job, as a text.
 fn report(alloc: Global, s: &Script) -> Result<Reply, SimFault>
     ensures status { IfOk result (λ r. r.status ≡ Status.Done) }
-    ensures report { IfOk result (λ r. (report : Report) × (r.text.items ≡ text report) × ((told : List ℕ) → IsLegal s.now report told)) }
+    ensures report { IfOk result
+        (λ r. (report : Report) × (r.text.items ≡ text report)
+        × ((told : List ℕ) → IsLegal s.now report told)) }
     ensures memory { result ≢ Err SimFault.ReadFault }
 {
     let Ok(report) = simulate(alloc, s) else {
@@ -85,10 +87,12 @@ fn answer(alloc: Global, bytes: &[u8]) -> Result<Reply, SimFault>
 
 /// Simulates the job whose script is the input.
 pub fn sim<S: Source>(alloc: Global, input: &mut S) -> Result<Reply, SimFault>
-    ensures answer { IfOk result (λ r. IfSome (S.left input.old) (λ bytes. IsSimAnswer bytes r.status r.text.items)) }
+    ensures answer { IfOk result
+        (λ r. IfSome (S.left input.old) (λ bytes. IsSimAnswer bytes r.status r.text.items)) }
     ensures status { IfOk result (λ r. (r.status ≡ Status.Done) ⊎ (r.status ≡ Status.Refused)) }
     ensures to_end { IfOk result (λ r. r.status ≡ Status.Done → IsAtEnd (S.left input.new)) }
-    ensures risen { IsErrOf result SimFault.ReadFault → HasRisen (S.faults input.old) (S.faults input.new) }
+    ensures risen { IsErrOf result SimFault.ReadFault
+        → HasRisen (S.faults input.old) (S.faults input.new) }
     ensures calm { result ≢ Err SimFault.ReadFault → S.faults input.new ≡ S.faults input.old }
 {
     match read_all(alloc, input, SCRIPT_LIMIT) {

@@ -83,8 +83,8 @@ fn nothing_is_written_where_the_second_read_fails(rt: HostRuntime) -> Result<(),
 }
 
 // Where no allocation is refused, this shows once more that the report is written. It is here for
-// runs in which one is refused: then the call writes nothing, or the whole report where a vector made
-// do with less room. Where the call can't even be set up, nothing is shown.
+// runs in which one is refused: then the call writes nothing, or the whole report where a vector
+// made do with less room. Where the call can't even be set up, nothing is shown.
 #[test]
 fn five_lines_are_reported_on_or_nothing_is_written(rt: HostRuntime) -> Result<(), Fail> {
     let Ok((status, sink)) = ended(rt.alloc(), &["sim", "0"], FIVE_LINES, 1) else {

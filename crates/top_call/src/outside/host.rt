@@ -27,7 +27,8 @@ pub trait Host {
         ensures size { IfOk result (λ dev. Self.Dev.size dev ≡ bytes) }
         ensures fresh { IfOk result (λ dev. Self.Dev.faults dev ≡ 0) }
         ensures given { OnOk result (GaveDevice rank (state self.old) (state self.new)) }
-        ensures refused { OnErr result (RefusedTo (Device rank bytes) (state self.old) (state self.new)) };
+        ensures refused { OnErr result
+            (RefusedTo (Device rank bytes) (state self.old) (state self.new)) };
 
     /// Keeps the device of a rank. It takes no memory.
     fn take_back(&mut self, rank: u32, dev: Self::Dev)
@@ -37,25 +38,30 @@ pub trait Host {
     /// Makes the named source the current one, from its first byte on.
     fn source(&mut self, name: &Name) -> Result<(), HostFailed>
         ensures opened { OnOk result (OpenedSource name.now (state self.old) (state self.new)) }
-        ensures refused { OnErr result (RefusedTo (Source name.now) (state self.old) (state self.new)) };
+        ensures refused { OnErr result
+            (RefusedTo (Source name.now) (state self.old) (state self.new)) };
 
     /// Reads the current source as `Source::read` does.
     fn read(&mut self, out: &mut [u8]) -> Result<usize, ReadFailed>
         requires { IsSome (state self.old).source }
         ensures within { IfOk result (λ n. n ≤ length out.old) }
-        ensures given { IfOk result (λ n. ReadFrom n out.old out.new (state self.old) (state self.new)) }
-        ensures refused { OnErr result (RefusedRead out.old out.new (state self.old) (state self.new)) };
+        ensures given { IfOk result
+            (λ n. ReadFrom n out.old out.new (state self.old) (state self.new)) }
+        ensures refused { OnErr result
+            (RefusedRead out.old out.new (state self.old) (state self.new)) };
 
     /// Makes the named sink the current one.
     fn sink(&mut self, name: &Name) -> Result<(), HostFailed>
         ensures opened { OnOk result (OpenedSink name.now (state self.old) (state self.new)) }
-        ensures refused { OnErr result (RefusedTo (Sink name.now) (state self.old) (state self.new)) };
+        ensures refused { OnErr result
+            (RefusedTo (Sink name.now) (state self.old) (state self.new)) };
 
     /// Writes to the current sink as `Sink::write` does.
     fn write(&mut self, b: &[u8]) -> Result<usize, WriteFailed>
         requires { IsSome (state self.old).sink }
         ensures within { IfOk result (λ n. n ≤ length b.now) }
         ensures progress { IfOk result (λ n. 0 < length b.now → 0 < n) }
-        ensures taken { IfOk result (λ n. WroteTo (take n b.now) (state self.old) (state self.new)) }
+        ensures taken { IfOk result
+            (λ n. WroteTo (take n b.now) (state self.old) (state self.new)) }
         ensures refused { OnErr result (RefusedWrite (state self.old) (state self.new)) };
 }

@@ -26,7 +26,12 @@ impl Model for MemSink {
 
     ghost Value = { FaultySink };
 
-    ghost view = { λ s. record { held = take s.taken s.bytes.items; room = vec_len s.bytes - s.taken; step = s.step; schedule = s.schedule } };
+    ghost view = { λ s. record {
+      held = take s.taken s.bytes.items;
+      room = vec_len s.bytes - s.taken;
+      step = s.step;
+      schedule = s.schedule;
+    } };
 
     ghost invariant = { λ s. (s.taken ≤ vec_len s.bytes) × (1 ≤ s.step) };
 }
@@ -36,7 +41,13 @@ impl MemSink {
     /// numbers, from 1, are in `fails` fail.
     pub fn new(alloc: Global, room: usize, step: usize, fails: Vec<u64>) -> Result<MemSink, Want>
         requires { 1 ≤ step }
-        ensures { IfOk result (λ s. s ≡ record { held = []; room = room; step = step; schedule = fresh_schedule fails.items }) }
+        ensures { IfOk result
+            (λ s. s ≡ record {
+              held = [];
+              room = room;
+              step = step;
+              schedule = fresh_schedule fails.items;
+            }) }
     {
         Ok(MemSink {
             bytes: vec![in alloc; 0; room]?,

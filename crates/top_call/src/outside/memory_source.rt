@@ -43,7 +43,8 @@ impl Source for CalmSource {
 
     fn read(&mut self, out: &mut [u8]) -> Result<usize, ReadFailed>
         ensures within { IfOk result (λ n. n ≤ length out.old) }
-        ensures given { IfOk result (λ n. IsReadOf n (Some self.old.left) (Some self.new.left) out.old out.new) }
+        ensures given { IfOk result
+            (λ n. IsReadOf n (Some self.old.left) (Some self.new.left) out.old out.new) }
         ensures never_fails { IsOk result }
         ensures portion { IfOk result (λ n. n ≡ portion_len self.old (length out.old)) }
         ensures after { IfOk result (λ n. self.new ≡ after_portion self.old n) }
@@ -89,10 +90,12 @@ impl Source for MemSource {
 
     fn read(&mut self, out: &mut [u8]) -> Result<usize, ReadFailed>
         ensures within { IfOk result (λ n. n ≤ length out.old) }
-        ensures given { IfOk result (λ n. IsReadOf n (Some self.old.text.left) (Some self.new.text.left) out.old out.new) }
+        ensures given { IfOk result
+            (λ n. IsReadOf n (Some self.old.text.left) (Some self.new.text.left) out.old out.new) }
         ensures calm { OnOk result (self.new.schedule.faults ≡ self.old.schedule.faults) }
         ensures risen { OnErr result (HasRisen self.old.schedule.faults self.new.schedule.faults) }
-        ensures unmoved { OnErr result (IsUnread (Some self.old.text.left) (Some self.new.text.left) out.old out.new) }
+        ensures unmoved { OnErr result
+            (IsUnread (Some self.old.text.left) (Some self.new.text.left) out.old out.new) }
         ensures due { is_err result ≡ is_due self.old.schedule }
         ensures portion { IfOk result (λ n. n ≡ portion_len self.old.text (length out.old)) }
         ensures after { IfOk result (λ n. self.new.text ≡ after_portion self.old.text n) }

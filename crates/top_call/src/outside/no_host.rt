@@ -61,7 +61,8 @@ pub struct NoHost {
 impl NoHost {
     /// A host that was not asked for anything yet.
     pub fn new() -> NoHost
-        ensures { result ≡ record { host_faults = 0; read_faults = 0; write_faults = 0; refused = None } }
+        ensures { result
+            ≡ record { host_faults = 0; read_faults = 0; write_faults = 0; refused = None } }
     {
         NoHost {
             host_faults: 0,
@@ -73,7 +74,8 @@ impl NoHost {
 
     // Counts a refused call for a device, a source or a sink.
     fn refuse(&mut self, call: RefusedCall)
-        ensures counted { self.new ≡ record self.old { host_faults = self.new.host_faults; refused = Some call } }
+        ensures counted { self.new
+            ≡ record self.old { host_faults = self.new.host_faults; refused = Some call } }
         ensures risen { HasRisen self.old.host_faults self.new.host_faults }
     {
         self.host_faults = self.host_faults.saturating_add(1);
@@ -100,7 +102,9 @@ impl Host for NoHost {
 
     fn device(&mut self, rank: u32, bytes: u64) -> Result<NoDev, HostFailed>
         ensures fails { IsErr result }
-        ensures refused { OnErr result (RefusedTo (Device rank bytes) (⟦<NoHost as Host>⟧.state self.old) (⟦<NoHost as Host>⟧.state self.new)) }
+        ensures refused { OnErr result
+            (RefusedTo (Device rank bytes)
+            (⟦<NoHost as Host>⟧.state self.old) (⟦<NoHost as Host>⟧.state self.new)) }
     {
         self.refuse(RefusedCall::Device { rank, bytes });
         Err(HostFailed)
@@ -113,7 +117,9 @@ impl Host for NoHost {
 
     fn source(&mut self, name: &Name) -> Result<(), HostFailed>
         ensures fails { IsErr result }
-        ensures refused { OnErr result (RefusedTo (Source name.now) (⟦<NoHost as Host>⟧.state self.old) (⟦<NoHost as Host>⟧.state self.new)) }
+        ensures refused { OnErr result
+            (RefusedTo (Source name.now)
+            (⟦<NoHost as Host>⟧.state self.old) (⟦<NoHost as Host>⟧.state self.new)) }
     {
         self.refuse(RefusedCall::Source(KeptName::new(name)));
         Err(HostFailed)
@@ -131,7 +137,9 @@ impl Host for NoHost {
 
     fn sink(&mut self, name: &Name) -> Result<(), HostFailed>
         ensures fails { IsErr result }
-        ensures refused { OnErr result (RefusedTo (Sink name.now) (⟦<NoHost as Host>⟧.state self.old) (⟦<NoHost as Host>⟧.state self.new)) }
+        ensures refused { OnErr result
+            (RefusedTo (Sink name.now)
+            (⟦<NoHost as Host>⟧.state self.old) (⟦<NoHost as Host>⟧.state self.new)) }
     {
         self.refuse(RefusedCall::Sink(KeptName::new(name)));
         Err(HostFailed)

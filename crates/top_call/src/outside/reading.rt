@@ -49,11 +49,16 @@ pub fn read_all<S: Source>(alloc: Global, src: &mut S, limit: usize) -> Result<V
     ensures whole { IfOk result (λ v. IfSome (S.left src.old) (λ bytes. v.items ≡ bytes)) }
     ensures at_end { OnOk result (IsAtEnd (S.left src.new)) }
     ensures within { IfOk result (λ v. vec_len v ≤ limit) }
-    ensures fault { IsErrOf result ReadAllNo.ReadFault → HasRisen (S.faults src.old) (S.faults src.new) }
-    ensures fault_took { IsErrOf result ReadAllNo.ReadFault → TookAtMost limit (S.left src.old) (S.left src.new) }
-    ensures too_long { IsErrOf result ReadAllNo.TooLong → TookMoreThan limit (S.left src.old) (S.left src.new) }
-    ensures had_more { IsErrOf result ReadAllNo.TooLong → IfSome (S.left src.old) (λ bytes. limit < length bytes) }
-    ensures want_took { IsErrOf result ReadAllNo.Want → TookAtMost limit (S.left src.old) (S.left src.new) }
+    ensures fault { IsErrOf result ReadAllNo.ReadFault
+        → HasRisen (S.faults src.old) (S.faults src.new) }
+    ensures fault_took { IsErrOf result ReadAllNo.ReadFault
+        → TookAtMost limit (S.left src.old) (S.left src.new) }
+    ensures too_long { IsErrOf result ReadAllNo.TooLong
+        → TookMoreThan limit (S.left src.old) (S.left src.new) }
+    ensures had_more { IsErrOf result ReadAllNo.TooLong
+        → IfSome (S.left src.old) (λ bytes. limit < length bytes) }
+    ensures want_took { IsErrOf result ReadAllNo.Want
+        → TookAtMost limit (S.left src.old) (S.left src.new) }
     ensures calm { result ≢ Err ReadAllNo.ReadFault → S.faults src.new ≡ S.faults src.old }
     ensures tells { is_some (S.left src.new) ≡ is_some (S.left src.old) }
 {

@@ -24,7 +24,8 @@ pub trait Sink {
     fn write(&mut self, b: &[u8]) -> Result<usize, WriteFailed>
         ensures within { IfOk result (λ n. n ≤ length b.now) }
         ensures progress { IfOk result (λ n. 0 < length b.now → 0 < n) }
-        ensures taken { IfOk result (λ n. held self.new ≡ then_bytes (held self.old) (take n b.now)) }
+        ensures taken { IfOk result
+            (λ n. held self.new ≡ then_bytes (held self.old) (take n b.now)) }
         ensures calm { OnOk result (faults self.new ≡ faults self.old) }
         ensures risen { OnErr result (HasRisen (faults self.old) (faults self.new)) }
         ensures unmoved { OnErr result (held self.new ≡ held self.old) };

@@ -23,7 +23,8 @@ pub trait Source {
     /// `out` has room and some are left. A failed call moves nothing.
     fn read(&mut self, out: &mut [u8]) -> Result<usize, ReadFailed>
         ensures within { IfOk result (λ n. n ≤ length out.old) }
-        ensures given { IfOk result (λ n. IsReadOf n (left self.old) (left self.new) out.old out.new) }
+        ensures given { IfOk result
+            (λ n. IsReadOf n (left self.old) (left self.new) out.old out.new) }
         ensures calm { OnOk result (faults self.new ≡ faults self.old) }
         ensures risen { OnErr result (HasRisen (faults self.old) (faults self.new)) }
         ensures unmoved { OnErr result (IsUnread (left self.old) (left self.new) out.old out.new) };
