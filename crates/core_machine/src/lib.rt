@@ -2,11 +2,11 @@
 //! files and the pending writes of a job, and touches nothing outside memory.
 #![tactic(auto)]
 
-mod core;
 mod event;
 mod extent;
 mod file_state;
 mod laws;
+mod machine;
 mod noted;
 mod path_state;
 mod path_table;
@@ -14,8 +14,8 @@ mod program;
 mod run;
 mod turns;
 
-pub use core::Core;
 pub use laws::runs_are_legal;
+pub use machine::Core;
 pub use path_table::PathTable;
 
 #[cfg(test)]

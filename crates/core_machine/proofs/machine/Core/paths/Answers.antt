@@ -2,7 +2,7 @@ use Rattle.std.proofs.Common.{map, sym, ap, ◌∙◌}
 use Rattle.std.proofs.lemmas.List.{length-map}
 use Rattle.core_machine.proofs.Refines.First.{zip-keys}
 use Rattle.core_machine.proofs.Refines.Journals.{journal_kept}
-use Rattle.core_machine.proofs.core.Core.paths.Goals as goal
+use Rattle.core_machine.proofs.machine.Core.paths.Goals as goal
 
 pub returns : goal.returns
 returns c =
