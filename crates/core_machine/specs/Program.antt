@@ -22,9 +22,9 @@ pub record IsLeast (xs : List ℕ) (k : ℕ) : Type 0 where
   pub least : All (λ x. k ≤ x) xs
 
 -- the programs' lines with line n at the end of its client's, if it is an operation
-abbrev pub with_line : ℕ → Option OpLine → List (List ℕ) → List (List ℕ)
-with_line n None ls = ls
-with_line n (Some o) ls = slice_set ls o.rank (slice_index_or ls o.rank [] ++ n ∷ [])
+abbrev pub programs_with : ℕ → Option OpLine → List (List ℕ) → List (List ℕ)
+programs_with n None ls = ls
+programs_with n (Some o) ls = slice_set ls o.rank (slice_index_or ls o.rank [] ++ n ∷ [])
 
 -- one for each client, with its lines
 abbrev pub ArePrograms : Job → List Program → Type 0

@@ -5,7 +5,7 @@ ghost use Rattle.std.specs.Option.{option_map};
 ghost use Rattle.fs_script.specs.Job.{op_at, phase};
 ghost use Rattle.fs_script.specs.Grammar.{IsJob};
 ghost use Rattle.core_machine.specs.Turns.{is_of_phase};
-ghost use Rattle.core_machine.specs.Program.{next_of, with_line, ArePrograms};
+ghost use Rattle.core_machine.specs.Program.{next_of, programs_with, ArePrograms};
 
 use fs_script::{Line, Script};
 use fs_types::{LineNo, Want};
@@ -69,7 +69,7 @@ fn add_line(s: &Script, n: LineNo, programs: &mut [Program]) -> Result<(), Want>
     requires job { IsJob s.now }
     requires clients { length programs.old ≡ s.now.shape.clients }
     ensures lines { OnOk result (map (λ p. p.lines.items) programs.new
-        ≡ with_line n (op_at s.now n) (map (λ p. p.lines.items) programs.old)) }
+        ≡ programs_with n (op_at s.now n) (map (λ p. p.lines.items) programs.old)) }
     ensures places { map (λ p. p.place) programs.new ≡ map (λ p. p.place) programs.old }
 {
     if let Some(Line::Op(o)) = s.line(n) {

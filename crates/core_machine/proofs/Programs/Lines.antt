@@ -8,7 +8,7 @@ use Rattle.std.proofs.lemmas.List.FromFn.{fill_by_all, get_or-map-range_with_len
 use Rattle.fs_script.specs.declared.line.OpLine.{OpLine}
 use Rattle.fs_script.specs.Job.{Job, op_at, is_of_rank}
 use Rattle.fs_script.proofs.CallerLemmas.{range-push}
-use Rattle.core_machine.specs.Program.{with_line}
+use Rattle.core_machine.specs.Program.{programs_with}
 
 -- of a client's program the lines before line n
 abbrev pub lines_before : Job → ℕ → ℕ → List ℕ
@@ -22,24 +22,24 @@ lines_before-more s n r from =
     let range = ap (range_with_len 2) longer ∙ sym (range-push 2 (n - 2)) ∙ ap (λ m. range_with_len 2 (n - 2) ++ m ∷ []) last in
     ap (filter test) range ∙ filter-append test (range_with_len 2 (n - 2)) (n ∷ [])
 
-length-with_line : (n : ℕ) (x : Option OpLine) (ls : List (List ℕ)) → length (with_line n x ls) ≡ length ls
-length-with_line n None ls = refl
-length-with_line n (Some o) ls = length-set ls o.rank (get_or ls o.rank [] ++ n ∷ [])
+length-programs_with : (n : ℕ) (x : Option OpLine) (ls : List (List ℕ)) → length (programs_with n x ls) ≡ length ls
+length-programs_with n None ls = refl
+length-programs_with n (Some o) ls = length-set ls o.rank (get_or ls o.rank [] ++ n ∷ [])
 
-with_line-at : (n : ℕ) (x : Option OpLine) (ls : List (List ℕ)) (r : ℕ) → r < length ls → get_or (with_line n x ls) r [] ≡ get_or ls r [] ++ cond (is_of_rank r x) (n ∷ []) []
-with_line-at n None ls r lt = sym (append-nil (get_or ls r []))
-with_line-at n (Some o) ls r lt = elim (cases_eq o.rank r) [
+programs_with-at : (n : ℕ) (x : Option OpLine) (ls : List (List ℕ)) (r : ℕ) → r < length ls → get_or (programs_with n x ls) r [] ≡ get_or ls r [] ++ cond (is_of_rank r x) (n ∷ []) []
+programs_with-at n None ls r lt = sym (append-nil (get_or ls r []))
+programs_with-at n (Some o) ls r lt = elim (cases_eq o.rank r) [
   | inl is ↦ rw (eq-eqb o.rank r is) (rw is (get_or-set_same ls r (get_or ls r [] ++ n ∷ []) [] lt))
   | inr other ↦ rw (ne_eqb o.rank r other) (get_or-set_other ls o.rank r (get_or ls o.rank [] ++ n ∷ []) [] (λ e. other (sym e)) ∙ sym (append-nil (get_or ls r [])))
 ]
 
 -- with line n each program has its lines before line n + 1
-pub with_line-more : (s : Job) (n : ℕ) (ls : List (List ℕ)) → 2 ≤ n → ls ≡ map (lines_before s n) (range_with_len 0 s.shape.clients)
-    → with_line n (op_at s n) ls ≡ map (lines_before s (n + 1)) (range_with_len 0 s.shape.clients)
-with_line-more s n ls from is =
+pub programs_with-more : (s : Job) (n : ℕ) (ls : List (List ℕ)) → 2 ≤ n → ls ≡ map (lines_before s n) (range_with_len 0 s.shape.clients)
+    → programs_with n (op_at s n) ls ≡ map (lines_before s (n + 1)) (range_with_len 0 s.shape.clients)
+programs_with-more s n ls from is =
     let clients = s.shape.clients in
     let before = map (lines_before s n) (range_with_len 0 clients) in
     let sized = length-map-range_with_len (lines_before s n) 0 clients in
-    ap (with_line n (op_at s n)) is ∙
-    fill_by_all (lines_before s (n + 1)) (with_line n (op_at s n) before) clients [] (length-with_line n (op_at s n) before ∙ sized)
-    (λ r lt. with_line-at n (op_at s n) before r (omega arith) ∙ rw (get_or-map-range_with_len (lines_before s n) 0 clients r r [] lt (omega arith)) (sym (lines_before-more s n r from)))
+    ap (programs_with n (op_at s n)) is ∙
+    fill_by_all (lines_before s (n + 1)) (programs_with n (op_at s n) before) clients [] (length-programs_with n (op_at s n) before ∙ sized)
+    (λ r lt. programs_with-at n (op_at s n) before r (omega arith) ∙ rw (get_or-map-range_with_len (lines_before s n) 0 clients r r [] lt (omega arith)) (sym (lines_before-more s n r from)))
