@@ -24,7 +24,7 @@ use Rattle.fs_script.specs.declared.line.Line.{Line}
 use Rattle.fs_script.specs.declared.line.OpLine.{OpLine}
 use Rattle.fs_script.specs.Job.{Job, Names, operation, op_at}
 use Rattle.fs_script.specs.Report.{AreRising, ArePaths}
-use Rattle.core_machine.specs.PathTable.{texts, with_path, with_op, with_line, paths_of}
+use Rattle.core_machine.specs.PathTable.{texts, with_path, with_op, with_path_of, paths_of}
 
 -- ---- vectors, and their bytes
 module _ {A : Type 0} where
@@ -121,10 +121,10 @@ absent-from_position ps p = by (ltb (position_or_len (λ q. bytes_eq q p) ps) (l
 
 -- ---- the paths of lines
 -- one line more brings its path
-fold-with_line-more : (acc : List (List ℕ)) (ls : List Line) (k : ℕ) → k < length ls → fold with_line acc (take (suc k) ls) ≡ with_op (fold with_line acc (take k ls)) (operation (slice_get ls k))
-fold-with_line-more acc [] k within = absurd (omega arith)
-fold-with_line-more acc (l ∷ ls) zero within = refl
-fold-with_line-more acc (l ∷ ls) (suc k) within = fold-with_line-more (with_line acc l) ls k (omega arith)
+fold-with_path_of-more : (acc : List (List ℕ)) (ls : List Line) (k : ℕ) → k < length ls → fold with_path_of acc (take (suc k) ls) ≡ with_op (fold with_path_of acc (take k ls)) (operation (slice_get ls k))
+fold-with_path_of-more acc [] k within = absurd (omega arith)
+fold-with_path_of-more acc (l ∷ ls) zero within = refl
+fold-with_path_of-more acc (l ∷ ls) (suc k) within = fold-with_path_of-more (with_path_of acc l) ls k (omega arith)
 
 -- the paths of the lines before n and of line n
 pub paths_of-more : (s : Job) (n : ℕ) → 2 ≤ n → n < length s.lines + 2 → paths_of (take (n + 1 - 2) s.lines) ≡ with_op (paths_of (take (n - 2) s.lines)) (op_at s n)
@@ -133,7 +133,7 @@ paths_of-more s (suc zero) past within = absurd (omega arith)
 paths_of-more s (suc (suc k)) past within =
     let next : suc (suc k) + 1 - 2 ≡ suc k = omega arith in
     let here : suc (suc k) - 2 ≡ k = omega arith in
-    ap (λ i. paths_of (take i s.lines)) next ∙ fold-with_line-more [] s.lines k (omega arith) ∙ sym (ap (λ i. with_op (paths_of (take i s.lines)) (operation (slice_get s.lines k))) here)
+    ap (λ i. paths_of (take i s.lines)) next ∙ fold-with_path_of-more [] s.lines k (omega arith) ∙ sym (ap (λ i. with_op (paths_of (take i s.lines)) (operation (slice_get s.lines k))) here)
 
 -- the test for equal bytes tells paths apart
 same_from_bytes : (p q : List ℕ) → bytes_eq p q ≡ true → p ≡ q
@@ -161,16 +161,16 @@ Contains-with_op ps None q there = there
 Contains-with_op ps (Some o) q there = Contains-with_path ps o.path q there
 
 -- nor do the paths of lines
-Contains-fold : (acc : List (List ℕ)) (ls : List Line) (q : List ℕ) → Contains acc q → Contains (fold with_line acc ls) q
+Contains-fold : (acc : List (List ℕ)) (ls : List Line) (q : List ℕ) → Contains acc q → Contains (fold with_path_of acc ls) q
 Contains-fold acc [] q there = there
-Contains-fold acc (l ∷ ls) q there = Contains-fold (with_line acc l) ls q (Contains-with_op acc (operation (Some l)) q there)
+Contains-fold acc (l ∷ ls) q there = Contains-fold (with_path_of acc l) ls q (Contains-with_op acc (operation (Some l)) q there)
 
 -- the path of each line that is an operation is there
-Contains-fold-from_line : (acc : List (List ℕ)) (ls : List Line) (k : ℕ) (o : OpLine) → operation (slice_get ls k) ≡ Some o → Contains (fold with_line acc ls) o.path
+Contains-fold-from_line : (acc : List (List ℕ)) (ls : List Line) (k : ℕ) (o : OpLine) → operation (slice_get ls k) ≡ Some o → Contains (fold with_path_of acc ls) o.path
 Contains-fold-from_line acc [] k o is = absurd cc
 Contains-fold-from_line acc (l ∷ ls) zero o is =
-    Contains-fold (with_line acc l) ls o.path (subst (λ x. Contains (with_op acc x) o.path) (sym is) (Contains-insert_key bytes_eq same_from_bytes acc o.path))
-Contains-fold-from_line acc (l ∷ ls) (suc k) o is = Contains-fold-from_line (with_line acc l) ls k o is
+    Contains-fold (with_path_of acc l) ls o.path (subst (λ x. Contains (with_op acc x) o.path) (sym is) (Contains-insert_key bytes_eq same_from_bytes acc o.path))
+Contains-fold-from_line acc (l ∷ ls) (suc k) o is = Contains-fold-from_line (with_path_of acc l) ls k o is
 
 -- some of these lines is an operation on this path
 record IsNamedIn (ls : List Line) (p : List ℕ) : Type 0 where
@@ -189,9 +189,9 @@ Contains-with_op-cases ps None q there = inl there
 Contains-with_op-cases ps (Some o) q there = elim (Contains-with_path-cases ps o.path q there) [ inl before ↦ inl before | inr same ↦ inr (o, refl, same) ]
 
 -- a path was there before these lines, or one of them names it
-Contains-fold-cases : (acc : List (List ℕ)) (ls : List Line) (q : List ℕ) → Contains (fold with_line acc ls) q → Contains acc q ⊎ IsNamedIn ls q
+Contains-fold-cases : (acc : List (List ℕ)) (ls : List Line) (q : List ℕ) → Contains (fold with_path_of acc ls) q → Contains acc q ⊎ IsNamedIn ls q
 Contains-fold-cases acc [] q there = inl there
-Contains-fold-cases acc (l ∷ ls) q there = elim (Contains-fold-cases (with_line acc l) ls q there) [
+Contains-fold-cases acc (l ∷ ls) q there = elim (Contains-fold-cases (with_path_of acc l) ls q there) [
   | inl before ↦ elim (Contains-with_op-cases acc (operation (Some l)) q before) [
     | inl earlier ↦ inl earlier
     | inr here ↦ inr (record { place = 0; op = here.0; is = here.1; on = here.2 })

@@ -20,9 +20,9 @@ with_op ps None = ps
 with_op ps (Some o) = with_path ps o.path
 
 -- the paths with that of a line, if it is an operation
-abbrev pub with_line : List (List ℕ) → Line → List (List ℕ)
-with_line ps l = with_op ps (operation (Some l))
+abbrev pub with_path_of : List (List ℕ) → Line → List (List ℕ)
+with_path_of ps l = with_op ps (operation (Some l))
 
 -- the paths of these lines
 abbrev pub paths_of : List Line → List (List ℕ)
-paths_of ls = fold with_line [] ls
+paths_of ls = fold with_path_of [] ls

@@ -16,7 +16,7 @@ use Rattle.fs_script.specs.AnswerKinds.{version_of}
 use Rattle.fs_script.specs.Pending.{Answering}
 use Rattle.fs_script.specs.Effect.{state}
 use Rattle.fs_script.specs.Front.{front}
-use Rattle.fs_script.specs.Fits.{IsNoLater, IsInReach, entry, AreTold, AgreesWithOpen, LineView, line_view, MayWrite, IsAtFront, Accepts, EndsPast, ShowsRange, IsInTable, Fits}
+use Rattle.fs_script.specs.Fits.{IsNoLater, IsInReach, entry, AreTold, AgreesWithOpen, LineView, line_view, MayWrite, IsAtFront, Accepts, EndsPast, ShowsAsked, IsInTable, Fits}
 use Rattle.fs_script.specs.Growth.{AgreeBefore, SamePending}
 use Rattle.fs_script.proofs.Agreement.{pending-agree, is_open-agree}
 use Rattle.fs_script.proofs.States.{state_in-agree, state_in-push}
@@ -105,7 +105,7 @@ IsInTable-push : (compared : Type 0) (w : LineView) (K : List ℕ) (g : ℕ → 
 IsInTable-push compared w K g op (answers.Done v) entries file writes h =
     MatchBool-push (commits op w.pending) (entries v w.number) (λ k. (k.0, subst (λ f. IsSome f) (sym file) k.1)) h
 IsInTable-push compared w K g op (answers.Wrote slots) entries file writes h = Accepts-push w K g (brought op) slots writes h
-IsInTable-push compared w K g op (answers.Shown v n body) entries file writes h = subst (λ f. ShowsRange compared (asked op) f n body) (sym file) h
+IsInTable-push compared w K g op (answers.Shown v n body) entries file writes h = subst (λ f. ShowsAsked compared (asked op) f n body) (sym file) h
 IsInTable-push compared w K g op answers.BadF entries file writes h = h
 IsInTable-push compared w K g op (answers.Exists v) entries file writes h = (h.0, subst (λ f. IsSome f) (sym file) h.1)
 IsInTable-push compared w K g op (answers.NoEnt v) entries file writes h = (h.0, IsAtFront-push w K g (brought op) v h.1, subst (λ f. IsNone f) (sym file) h.2)

@@ -14,7 +14,7 @@ use Rattle.fs_script.specs.Growth.{AgreeBefore, AddsAnswer, ComesNext, IsOfNoEar
 use Rattle.fs_script.proofs.Agreement.{pending-agree, committed-agree, committed-unanswered}
 use Rattle.fs_script.proofs.PlainLists.{AllByRecursion-at, slice_get-push_cases, slice_get-push_below}
 use Rattle.fs_script.proofs.States.{state_in-agree, state_in-push}
-use Rattle.fs_script.proofs.PlainLists.{AllByRecursion-from_get, slice_get-push_last, some_of}
+use Rattle.fs_script.proofs.PlainLists.{AllByRecursion-from_get, some_of}
 
 -- ---- what an answer leaves as it was
 

@@ -19,7 +19,7 @@ use Rattle.fs_script.specs.Job.{Job, op_at, Names}
 use Rattle.fs_script.specs.Effect.{state}
 use Rattle.fs_script.specs.Fits.{AreTold}
 use Rattle.fs_script.specs.Grammar.{IsJob}
-use Rattle.fs_script.specs.Report.{Report, journal_of, AreRising, file_state_of, IsLegal, answering}
+use Rattle.fs_script.specs.Report.{Report, journal_of, AreRising, file_state_of, IsLegal, answers_of}
 use Rattle.fs_script.specs.Printable.{IsPrintableAnswer, IsPrintableLine, IsPrintableJournal, IsPrintableState, IsPrintableFile, IsPrintable}
 use Rattle.fs_script.proofs.AnsweredLines.{rising-passing}
 use Rattle.fs_script.proofs.Digests.{IsDigest-md5}
@@ -69,13 +69,13 @@ IsPrintableState-file (Some c) within =
 
 module _ (told : List ℕ) (s : Job) (R : Report) (job : IsJob s) (legal : IsLegal s R told) where
   -- each answer is to an operation, and is the one that is found there
-  IsPrintableLine-legal : AreTold s told → (a : ℕ × Answer) → IsSome (op_at s a.0) → answering R a.0 ≡ Some a.1 → IsPrintableLine a
+  IsPrintableLine-legal : AreTold s told → (a : ℕ × Answer) → IsSome (op_at s a.0) → answers_of R a.0 ≡ Some a.1 → IsPrintableLine a
   IsPrintableLine-legal all a is_op found =
       let op = some_of (op_at s a.0) is_op in
       let J = journal_of R.journals op.0.path in
       let answered = legal.lines a.0 op.0 op.1 in
       let same = same_Some answered.answer a.1 (sym answered.given ∙ found) in
-      let printable = IsPrintableAnswer-fits told s (answering R) J a.0 op.0 answered.answer
+      let printable = IsPrintableAnswer-fits told s (answers_of R) J a.0 op.0 answered.answer
       job all (legal.journals op.0.path) op.1 answered.fits in
       let within = op_at-within s a.0 op.0 op.1 in
       record { line = omega (arith, within.1, job.few); answer = subst IsPrintableAnswer same printable }
@@ -98,7 +98,7 @@ module _ (told : List ℕ) (s : Job) (R : Report) (job : IsJob s) (legal : IsLeg
   journal_is_printable : (p : List ℕ) → AllByRecursion (λ n. n < 2 ^ 32) (journal_of R.journals p)
   journal_is_printable p =
       let J = journal_of R.journals p in
-      let lines = journal-within s (answering R) p J (legal.journals p) in
+      let lines = journal-within s (answers_of R) p J (legal.journals p) in
       recursion_from_All (λ n. n < 2 ^ 32) J
       (All-weaker (λ n. n < 2 + length s.lines) (λ n. n < 2 ^ 32) (λ n within. omega (arith, job.few)) J lines)
 
@@ -115,13 +115,13 @@ module _ (told : List ℕ) (s : Job) (R : Report) (job : IsJob s) (legal : IsLeg
   files_are_printable : All IsPrintableFile R.files
   files_are_printable k d below =
       let paths = subst (All IsPath) (sym legal.shape.files) paths_are_paths in
-      let final = λ (p : List ℕ). state s (answering R) (journal_of R.journals p) (length (journal_of R.journals p)) in
+      let final = λ (p : List ℕ). state s (answers_of R) (journal_of R.journals p) (length (journal_of R.journals p)) in
       let states = All-from_recursion (λ (f : List ℕ × FileState). f.1 ≡ file_state_of (final f.0)) R.files legal.files in
       let J = journal_of R.journals (get_or R.files k d).0 in
-      let file = IsWithinLimits-state s job (answering R) J (length J) in
+      let file = IsWithinLimits-state s job (answers_of R) J (length J) in
       record {
         path = All-from_map IsPath (λ (f : List ℕ × FileState). f.0) R.files paths k d below;
-        state = subst IsPrintableState (sym (states k d below)) (IsPrintableState-file (state s (answering R) J (length J)) file);
+        state = subst IsPrintableState (sym (states k d below)) (IsPrintableState-file (state s (answers_of R) J (length J)) file);
       }
 
 -- ---- reports

@@ -22,7 +22,7 @@ use Rattle.fs_script.specs.Payload.{brought}
 use Rattle.fs_script.specs.Operations.{Range, asked}
 use Rattle.fs_script.specs.Pending.{Answering}
 use Rattle.fs_script.specs.Effect.{state}
-use Rattle.fs_script.specs.Fits.{AreTold, LineView, line_view, Accepts, ShowsRange, Fits, body_of}
+use Rattle.fs_script.specs.Fits.{AreTold, LineView, line_view, Accepts, ShowsAsked, Fits, body_of}
 use Rattle.fs_script.specs.Journal.{IsLegalJournal}
 use Rattle.fs_script.specs.Grammar.{IsJob, IsOp}
 use Rattle.fs_script.specs.Printable.{IsPrintableBody, IsPrintableAnswer}
@@ -58,7 +58,7 @@ IsPrintableBody-body_of bytes are =
 
 -- a range of a file has no more bytes than the file
 range_is_printable : (compared : Type 0) (x : Option Range) (f : File ℕ) (n : ℕ) (body : Body)
-    → compared → IsWithinLimits f → ShowsRange compared x f n body → (n < 2 ^ 64) × IsPrintableBody body
+    → compared → IsWithinLimits f → ShowsAsked compared x f n body → (n < 2 ^ 64) × IsPrintableBody body
 range_is_printable compared None f n body told within shows = absurd shows
 range_is_printable compared (Some x) None n body told within shows = absurd shows
 range_is_printable compared (Some x) (Some f) n body told within shows =

@@ -91,17 +91,17 @@ EndsPast w None = ⊥
 EndsPast w (Some x) = MayWrite w × (LONGEST_FILE < x.at + length x.bytes)
 
 -- the range of a file is shown
-abbrev pub ShowsRange : Type 0 → Option Range → File ℕ → ℕ → Body → Type 0
-ShowsRange compared None f n body = ⊥
-ShowsRange compared (Some x) None n body = ⊥
-ShowsRange compared (Some x) (Some f) n body = Shows compared (shown f.cells x.off x.len) n body
+abbrev pub ShowsAsked : Type 0 → Option Range → File ℕ → ℕ → Body → Type 0
+ShowsAsked compared None f n body = ⊥
+ShowsAsked compared (Some x) None n body = ⊥
+ShowsAsked compared (Some x) (Some f) n body = Shows compared (shown f.cells x.off x.len) n body
 
 -- the table: each answer, the operations that may have it, and where
 abbrev pub IsInTable : Type 0 → LineView → Op → Answer → Type 0
 IsInTable compared w op (answers.Done v) =
     MatchBool (commits op w.pending) (entry w.journal v ≡ Some w.number) (IsTrue (finds_file op) × IsSome (w.file v))
 IsInTable compared w op (answers.Wrote slots) = Accepts w (brought op) slots
-IsInTable compared w op (answers.Shown v n body) = ShowsRange compared (asked op) (w.file v) n body
+IsInTable compared w op (answers.Shown v n body) = ShowsAsked compared (asked op) (w.file v) n body
 IsInTable compared w op answers.BadF = IsTrue (needs_open op)
 IsInTable compared w op (answers.Exists v) = IsTrue (needs_no_file op) × IsSome (w.file v)
 IsInTable compared w op (answers.NoEnt v) = IsTrue (needs_file op) × IsAtFront w (brought op) v × IsNone (w.file v)

@@ -11,7 +11,7 @@ use Rattle.fs_script.specs.Grammar.{IsJob}
 use Rattle.fs_script.specs.Journal.{commit_by}
 use Rattle.fs_script.specs.Printable.{IsPrintable}
 use Rattle.fs_script.specs.SoFar.{Journals, IsLegalSoFar, IsNextAnswer, Pushes}
-use Rattle.fs_script.specs.Report.{Report, HasShape, FilesAreStates, IsLegal, answering, journal_of}
+use Rattle.fs_script.specs.Report.{Report, HasShape, FilesAreStates, IsLegal, answers_of, journal_of}
 use Rattle.fs_script.specs.Text.{text, line_feed}
 
 -- ---- jobs
@@ -41,7 +41,7 @@ CommitsKeepJobsLegal =
 -- with an answer to each operation, and the files at the ends of the journals, its report is legal
 abbrev pub FinishedJobsAreLegal : Type 0
 FinishedJobsAreLegal = (told : List ℕ) (s : Job) (R : Report) → HasShape s R → FilesAreStates s R
-    → IsLegalSoFar told s (answering R) (journal_of R.journals) → IsLegal s R told
+    → IsLegalSoFar told s (answers_of R) (journal_of R.journals) → IsLegal s R told
 
 -- ---- the texts of legal reports, where the bytes that they show are compared
 

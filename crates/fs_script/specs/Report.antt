@@ -52,22 +52,22 @@ file_state_of None = states.Gone
 file_state_of (Some f) = states.Whole (length f.cells) f.frozen (md5 (take DIGEST_LIMIT f.cells))
 
 -- the answers of a report as a function from lines
-abbrev pub answering : Report → Answering
-answering R = answer_at R.answers
+abbrev pub answers_of : Report → Answering
+answers_of R = answer_at R.answers
 
 -- each file is the state of its path at the end of its journal
 abbrev pub FilesAreStates : Job → Report → Type 0
-FilesAreStates s R = AllByRecursion (λ f. f.1 ≡ file_state_of (state s (answering R) (journal_of R.journals f.0) (length (journal_of R.journals f.0)))) R.files
+FilesAreStates s R = AllByRecursion (λ f. f.1 ≡ file_state_of (state s (answers_of R) (journal_of R.journals f.0) (length (journal_of R.journals f.0)))) R.files
 
 -- the answer to line n is there, and fits the journal of its path
 pub record IsAnswered (told : List ℕ) (s : Job) (R : Report) (n : ℕ) (o : OpLine) : Type 0 where
   pub answer : Answer
-  pub given : answering R n ≡ Some answer
-  pub fits : Fits told s (answering R) (journal_of R.journals o.path) n o answer
+  pub given : answers_of R n ≡ Some answer
+  pub fits : Fits told s (answers_of R) (journal_of R.journals o.path) n o answer
 
 -- a legal report of a job; told are the clients whose devices tell their bytes
 pub record IsLegal (s : Job) (R : Report) (told : List ℕ) : Type 0 where
   pub shape : HasShape s R
-  pub journals : (p : List ℕ) → IsLegalJournal s (answering R) p (journal_of R.journals p)
+  pub journals : (p : List ℕ) → IsLegalJournal s (answers_of R) p (journal_of R.journals p)
   pub lines : (n : ℕ) (o : OpLine) → op_at s n ≡ Some o → IsAnswered told s R n o
   pub files : FilesAreStates s R
