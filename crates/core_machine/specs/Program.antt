@@ -1,11 +1,11 @@
 -- What is kept of the clients' programs, and what it says of their turns.
-use Rattle.std.specs.Prelude.{All, Contains, ◌≡◌, ℕ, ◌≤◌, List, [], ◌∷◌, ◌++◌, length, map, slice_index, slice_index_or, slice_set, Option, Some, None}
+use Rattle.std.specs.Prelude.{◌≡◌, ℕ, ◌≤◌, List, All, Contains, [], ◌∷◌, ◌++◌, length, map, slice_index, slice_index_or, slice_set, Option, Some, None}
 use Rattle.std.specs.List.{slice_get, range_with_len, filter_map}
 use Rattle.std.specs.Option.{option_map}
 use Rattle.fs_script.specs.declared.line.OpLine.{OpLine}
 use Rattle.fs_script.specs.Job.{Job, phase, program}
-use Rattle.fs_script.specs.Grammar.{IsJob}
 use Rattle.core_machine.specs.declared.program.Program.{Program}
+use Rattle.core_machine.specs.LegalSoFar.{HasClients}
 use Rattle.core_machine.specs.Turns.{Places, going, IsInPhase}
 
 -- the line that is done next, if there is one
@@ -22,9 +22,9 @@ pub record IsLeast (xs : List ℕ) (k : ℕ) : Type 0 where
   pub least : All (λ x. k ≤ x) xs
 
 -- the programs' lines with line n at the end of its client's, if it is an operation
-abbrev pub programs_with : ℕ → Option OpLine → List (List ℕ) → List (List ℕ)
-programs_with n None ls = ls
-programs_with n (Some o) ls = slice_set ls o.rank (slice_index_or ls o.rank [] ++ n ∷ [])
+abbrev pub with_program_line : ℕ → Option OpLine → List (List ℕ) → List (List ℕ)
+with_program_line n None ls = ls
+with_program_line n (Some o) ls = slice_set ls o.rank (slice_index_or ls o.rank [] ++ n ∷ [])
 
 -- one for each client, with its lines
 abbrev pub ArePrograms : Job → List Program → Type 0
@@ -36,7 +36,7 @@ places_of s ps k = record { job = s; places = map (λ p. p.place) ps; phase = k 
 -- what is kept of the turns in phase k: the programs, each done up to a place in it, and the clients that go, with room
 -- for all
 pub record IsKept (s : Job) (ps : List Program) (k : ℕ) (ranks : List ℕ) (capacity : ℕ) : Type 0 where
-  pub job : IsJob s
+  pub job : HasClients s
   pub programs : ArePrograms s ps
   pub within : (r : ℕ) → slice_index (map (λ p. p.place) ps) r ≤ length (program s r)
   pub ready : ranks ≡ going (places_of s ps k)

@@ -2,11 +2,10 @@
 
 ghost use Rattle.std.specs.Prelude.{◌≡◌, ◌<◌, ◌≤◌, ◌+◌, false, [], Contains, IsTrue, Some, IfNone, IfSome, IfOk, OnOk, replicate, slice_index, slice_set, vec_capacity};
 ghost use Rattle.fs_script.specs.Job.{phase};
-ghost use Rattle.fs_script.specs.Grammar.{IsJob};
 ghost use Rattle.core_machine.specs.Turns.{next_in, going, IsInPhase};
 ghost use Rattle.core_machine.specs.Program.{next_phases, IsLeast, ArePrograms, places_of};
 
-use crate::program::{Program, programs_of};
+use crate::program::{Program, client_count, programs_of};
 use fs_script::Script;
 use fs_types::{LineNo, Rank, Want};
 use std::alloc::Global;
@@ -17,8 +16,10 @@ use std::marker::Model;
 #[derive(Drop)]
 pub struct Turns<'s> {
     script: &'s Script,
+    /// For each client, by rank.
     programs: Vec<Program>,
     phase: u32,
+    /// The clients that may go, ascending, with room for all, so that it takes memory only once.
     ready: Vec<Rank>,
 }
 
@@ -31,7 +32,8 @@ impl<'s> Model for Turns<'s> {
 
     ghost view = { λ t. places_of t.script.now t.programs.items t.phase };
 
-    ghost invariant = { λ t. IsKept t.script.now t.programs.items t.phase t.ready.items (vec_capacity t.ready) };
+    ghost invariant = { λ t. IsKept t.script.now t.programs.items t.phase
+        t.ready.items (vec_capacity t.ready) };
 }
 
 /// The least phase of the lines that are done next, or `None` where no client has a line left.
@@ -50,7 +52,7 @@ fn fill_ready(s: &Script, programs: &[Program], phase: u32, ready: &mut Vec<Rank
     ensures going { ready.new.items ≡ going (places_of s.now programs.now phase) }
     ensures room { vec_capacity ready.new ≡ vec_capacity ready.old }
 {
-    for r in 0..s.shape().clients {
+    for r in 0..client_count(s) {
         if programs[r as usize].goes_in(s, phase) {
             ready.push_reserved(Rank(r));
         }
@@ -64,7 +66,6 @@ impl<'s> Turns<'s> {
         ensures places { IfOk result (λ t. t.places ≡ replicate s.now.shape.clients 0) }
         ensures phase { IfOk result IsInPhase }
         ensures empty { IfOk result (λ t. going t ≡ [] → t.phase ≡ 0) }
-        ensures is_job { OnOk result (IsJob s.now) }
     {
         let programs = programs_of(alloc, s)?;
         let mut ready = Vec::with_capacity(alloc, programs.len())?;
@@ -104,10 +105,13 @@ impl<'s> Turns<'s> {
     }
 
     /// The next line of client `r` was answered. The answer says whether that began a new phase.
+    /// It takes constant time while the client's next line is of the same phase. Where the client
+    /// has no more line in it, the clients that go are walked, and at the phase's end all clients.
     pub fn advance(&mut self, r: Rank) -> bool
         requires { Contains (going self.old) r }
         ensures job { self.new.job ≡ self.old.job }
-        ensures places { self.new.places ≡ slice_set self.old.places r (slice_index self.old.places r + 1) }
+        ensures places { self.new.places
+            ≡ slice_set self.old.places r (slice_index self.old.places r + 1) }
         ensures begins { IsTrue result → self.old.phase < self.new.phase }
         ensures goes_on { result ≡ false → self.new.phase ≡ self.old.phase }
         ensures last { going self.new ≡ [] → result ≡ false }

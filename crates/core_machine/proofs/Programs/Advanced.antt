@@ -2,13 +2,13 @@
 use Rattle.std.proofs.Common.{◌≡◌, ℕ, ◌+◌, ◌<◌, ◌≤◌, Bool, true, false, List, [], ◌∷◌, cond, not, length, filter, Some, slice_get, slice_index, refl, sym, ap, ◌∙◌, inl, inr, arith}
 use Rattle.std.specs.Prelude.{◌==◌, ◌&&◌, slice_set}
 use Rattle.std.specs.List.{range_with_len}
-use Rattle.std.proofs.lemmas.Bool.{cases_eq, eq-eqb, ne_eqb}
+use Rattle.std.proofs.lemmas.Bool.{and_right, cases_eq, eq-eqb, ne_eqb}
 use Rattle.std.proofs.lemmas.List.{get_or-set_same, get_or-set_other}
 use Rattle.std.proofs.lemmas.List.Elements.{filter_agree}
 use Rattle.fs_script.specs.Job.{op_at, is_of_rank, phase, program}
 use Rattle.fs_script.proofs.CallerLemmas.{phase-rises, passing-rise}
 use Rattle.core_machine.specs.Turns.{Places, next_in, is_of_phase, going, IsInPhase}
-use Rattle.core_machine.proofs.Programs.Going.{Goes}
+use Rattle.core_machine.proofs.Programs.Going.{goes_in, Goes, goes_in-true}
 
 -- client r has answered one line more
 abbrev pub advanced : Places → ℕ → Places
@@ -17,27 +17,30 @@ advanced v r = record v { places = slice_set v.places r (slice_index v.places r 
 next_in-other : (v : Places) (r q : ℕ) → (q ≡ r → ⊥) → next_in (advanced v r) q ≡ next_in v q
 next_in-other v r q other = ap (slice_get (program v.job q)) (get_or-set_other v.places r q (slice_index v.places r + 1) 0 other)
 
-pub next_in-own : (v : Places) (r : ℕ) → r < length v.places → next_in (advanced v r) r ≡ slice_get (program v.job r) (slice_index v.places r + 1)
+pub next_in-own : (v : Places) (r : ℕ) → r < length v.places
+    → next_in (advanced v r) r ≡ slice_get (program v.job r) (slice_index v.places r + 1)
 next_in-own v r within = ap (slice_get (program v.job r)) (get_or-set_same v.places r (slice_index v.places r + 1) 0 within)
 
+and-true : (b : Bool) → (b && true) ≡ b
+and-true true = refl
+and-true false = refl
+
 -- what passes both tests
-filter-filter : (p q both : ℕ → Bool) → ((x : ℕ) → both x ≡ (q x && p x)) → (xs : List ℕ) → filter both xs ≡ filter q (filter p xs)
+filter-filter : (p q both : ℕ → Bool) → ((x : ℕ) → both x ≡ (q x && p x)) → (xs : List ℕ)
+    → filter both xs ≡ filter q (filter p xs)
 filter-filter p q both is [] = refl
 filter-filter p q both is (x ∷ xs) =
     let ys = filter p xs in
     rw (is x, filter-filter p q both is xs)
     (elim (p x) as (λ b. cond (q x && b) (x ∷ filter q ys) (filter q ys) ≡ filter q (cond b (x ∷ ys) ys)) [
-      | true ↦ elim (q x) as (λ b. cond (b && true) (x ∷ filter q ys) (filter q ys) ≡ cond b (x ∷ filter q ys) (filter q ys)) [ true ↦ refl | false ↦ refl ]
-      | false ↦ elim (q x) as (λ b. cond (b && false) (x ∷ filter q ys) (filter q ys) ≡ filter q ys) [ true ↦ refl | false ↦ refl ]
+      | true ↦ ap (λ b. cond b (x ∷ filter q ys) (filter q ys)) (and-true (q x))
+      | false ↦ ap (λ b. cond b (x ∷ filter q ys) (filter q ys)) (and_right (q x) false refl)
     ])
-
--- client q goes
-abbrev goes_in : Places → ℕ → Bool
-goes_in v q = is_of_phase v.job v.phase (next_in v q)
 
 module _ (v : Places) (r n : ℕ) (within : r < length v.places) (goes : Goes v r n) where
   -- no next line is of an earlier phase
-  pub none_earlier-advanced : IsInPhase v → (q m : ℕ) → next_in (advanced v r) q ≡ Some m → v.phase ≤ phase v.job m
+  pub none_earlier-advanced : IsInPhase v → (q m : ℕ) → next_in (advanced v r) q ≡ Some m
+      → v.phase ≤ phase v.job m
   none_earlier-advanced in_phase q m next = elim (cases_eq q r) [
     | inl is ↦
         let place = slice_index v.places r in
@@ -47,19 +50,17 @@ module _ (v : Places) (r n : ℕ) (within : r < length v.places) (goes : Goes v 
     | inr other ↦ in_phase.none_earlier q m (sym (next_in-other v r q other) ∙ next)
   ]
 
-  gone : goes_in v r ≡ true
-  gone = ap (is_of_phase v.job v.phase) goes.next ∙ eq-eqb (phase v.job n) v.phase goes.of_phase
-
   -- where its next line is of the same phase, the same clients go
   pub going-stays : goes_in (advanced v r) r ≡ true → going (advanced v r) ≡ going v
   going-stays of = filter_agree (goes_in (advanced v r)) (goes_in v)
       (λ q. elim (cases_eq q r) [
-        | inl is ↦ ap (goes_in (advanced v r)) is ∙ of ∙ sym (ap (goes_in v) is ∙ gone)
+        | inl is ↦ ap (goes_in (advanced v r)) is ∙ of ∙ sym (ap (goes_in v) is ∙ goes_in-true v r n goes)
         | inr other ↦ ap (is_of_phase v.job v.phase) (next_in-other v r q other)
       ]) (range_with_len 0 v.job.shape.clients)
 
   -- where it has none in this phase, the others go
-  pub going-leaves : goes_in (advanced v r) r ≡ false → going (advanced v r) ≡ filter (λ q. not (q == r)) (going v)
+  pub going-leaves : goes_in (advanced v r) r ≡ false
+      → going (advanced v r) ≡ filter (λ q. not (q == r)) (going v)
   going-leaves of = filter-filter (goes_in v) (λ q. not (q == r)) (goes_in (advanced v r))
       (λ q. elim (cases_eq q r) [
         | inl is ↦ rw (eq-eqb q r is) (ap (goes_in (advanced v r)) is ∙ of)

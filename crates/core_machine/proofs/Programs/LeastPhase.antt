@@ -20,7 +20,8 @@ fold-min-least : (a : ℕ) (xs : List ℕ) → AllByRecursion (λ x. fold min a 
 fold-min-least a [] = tt
 fold-min-least a (x ∷ xs) = (omega (arith, fold-min-le (min a x) xs), fold-min-least (min a x) xs)
 
-min-there : (a x : ℕ) (xs : List ℕ) (y k : ℕ) → k < suc (length xs) → get_or (min a x ∷ xs) k y ≡ y → Contains (a ∷ x ∷ xs) y
+min-there : (a x : ℕ) (xs : List ℕ) (y k : ℕ) → k < suc (length xs) → get_or (min a x ∷ xs) k y ≡ y
+    → Contains (a ∷ x ∷ xs) y
 min-there a x xs y zero lt is = elim (cases_lt x a) [
   | inl less ↦ (1, omega arith, omega arith)
   | inr other ↦ (0, omega arith, omega arith)
@@ -45,7 +46,8 @@ IsLeast-from_reduce (x ∷ xs) = record {
 
 -- ---- what a function gives of some elements
 
-filter_map-at : {X Y : Type 0} (f : X → Option Y) (xs : List X) (i : ℕ) (x : X) (y : Y) → slice_get xs i ≡ Some x → f x ≡ Some y → (j : ℕ) × (slice_get (filter_map f xs) j ≡ Some y)
+filter_map-at : {X Y : Type 0} (f : X → Option Y) (xs : List X) (i : ℕ) (x : X) (y : Y)
+    → slice_get xs i ≡ Some x → f x ≡ Some y → (j : ℕ) × (slice_get (filter_map f xs) j ≡ Some y)
 filter_map-at f [] i x y at is = absurd (none-some x at)
 filter_map-at f (w ∷ ws) zero x y at is = rw (ap f (same_Some w x at) ∙ is) (0, refl)
 filter_map-at f (w ∷ ws) (suc i) x y at is =
@@ -56,19 +58,22 @@ filter_map-at f (w ∷ ws) (suc i) x y at is =
     ]
 
 module _ {X Y : Type 0} (f : X → Option Y) (w : X) (ws : List X) (y : Y) (later : (j : ℕ) → slice_get (filter_map f ws) j ≡ Some y → (i : ℕ) × (x : X) × (slice_get ws i ≡ Some x) × (f x ≡ Some y)) where
-  cons_option-from : (o : Option Y) (j : ℕ) → f w ≡ o → slice_get (cons_option o (filter_map f ws)) j ≡ Some y → (i : ℕ) × (x : X) × (slice_get (w ∷ ws) i ≡ Some x) × (f x ≡ Some y)
+  cons_option-from : (o : Option Y) (j : ℕ) → f w ≡ o → slice_get (cons_option o (filter_map f ws)) j ≡ Some y
+      → (i : ℕ) × (x : X) × (slice_get (w ∷ ws) i ≡ Some x) × (f x ≡ Some y)
   cons_option-from None j gives at = let there = later j at in (suc there.0, there.1, there.2, there.3)
   cons_option-from (Some v) zero gives at = (0, w, refl, gives ∙ at)
   cons_option-from (Some v) (suc j) gives at = let there = later j at in (suc there.0, there.1, there.2, there.3)
 
-filter_map-from : {X Y : Type 0} (f : X → Option Y) (xs : List X) (j : ℕ) (y : Y) → slice_get (filter_map f xs) j ≡ Some y → (i : ℕ) × (x : X) × (slice_get xs i ≡ Some x) × (f x ≡ Some y)
+filter_map-from : {X Y : Type 0} (f : X → Option Y) (xs : List X) (j : ℕ) (y : Y)
+    → slice_get (filter_map f xs) j ≡ Some y → (i : ℕ) × (x : X) × (slice_get xs i ≡ Some x) × (f x ≡ Some y)
 filter_map-from f [] j y at = absurd (none-some y at)
 filter_map-from f (w ∷ ws) j y at = cons_option-from f w ws y (λ i h. filter_map-from f ws i y h) (f w) j refl at
 
 -- ---- the phases of the lines that are done next
 
 module _ (s : Job) (ps : List Program) where
-  pub next_phases-at : (r : ℕ) (p : Program) (n : ℕ) → slice_get ps r ≡ Some p → next_of p ≡ Some n → Contains (next_phases s ps) (phase s n)
+  pub next_phases-at : (r : ℕ) (p : Program) (n : ℕ) → slice_get ps r ≡ Some p → next_of p ≡ Some n
+      → Contains (next_phases s ps) (phase s n)
   next_phases-at r p n at next =
       let there = filter_map-at (λ q. option_map (phase s) (next_of q)) ps r p (phase s n) at (ap (option_map (phase s)) next) in
       (there.0, slice_get_within (next_phases s ps) there.0 (phase s n) there.1, get_or_from_slice_get (next_phases s ps) there.0 (phase s n) (phase s n) there.1)
@@ -77,7 +82,8 @@ module _ (s : Job) (ps : List Program) where
   phase-of None k is = absurd (none-some k is)
   phase-of (Some n) k is = (n, refl, same_Some (phase s n) k is)
 
-  pub next_phases-from : (k : ℕ) → Contains (next_phases s ps) k → (r : ℕ) × (p : Program) × (n : ℕ) × (slice_get ps r ≡ Some p) × (next_of p ≡ Some n) × (phase s n ≡ k)
+  pub next_phases-from : (k : ℕ) → Contains (next_phases s ps) k
+      → (r : ℕ) × (p : Program) × (n : ℕ) × (slice_get ps r ≡ Some p) × (next_of p ≡ Some n) × (phase s n ≡ k)
   next_phases-from k there =
       let at = slice_get-get_or (next_phases s ps) there.0 k there.1 ∙ ap Some there.2 in
       let from = filter_map-from (λ q. option_map (phase s) (next_of q)) ps there.0 k at in

@@ -1,26 +1,26 @@
 -- What the programs that are kept say of the lines that come next, and of their phases.
-use Rattle.std.proofs.Common.{◌≡◌, ℕ, ◌<◌, ◌≤◌, List, [], length, map, Option, Some, None, slice_get, slice_index, Contains, refl, sym, ap, ◌∙◌, subst, zero-add, inl, inr, arith}
+use Rattle.std.proofs.Common.{◌≡◌, ℕ, ◌<◌, ◌≤◌, List, [], length, map, get_or, Option, Some, None, slice_get, slice_index, Contains, refl, sym, ap, ◌∙◌, subst, zero-add, inl, inr, arith}
 use Rattle.std.specs.Prelude.{IfNone, IfSome, unwrap_or}
 use Rattle.std.specs.List.{range_with_len}
 use Rattle.std.specs.Option.{option_map}
 use Rattle.std.proofs.lemmas.List.{length-map}
 use Rattle.std.proofs.lemmas.List.Elements.{All-contains}
 use Rattle.std.proofs.lemmas.List.FromFn.{length-map-range_with_len}
-use Rattle.std.proofs.lemmas.Option.{same_Some, slice_get-map, slice_get_within, slice_get_cases, get_or_from_slice_get}
+use Rattle.std.proofs.lemmas.Option.{same_Some, slice_get-map, slice_get_within, slice_get_cases, slice_get_read, get_or_from_slice_get}
 use Rattle.fs_script.specs.Job.{Job, phase, program}
-use Rattle.fs_script.specs.Grammar.{IsJob}
-use Rattle.fs_script.proofs.CallerLemmas.{IsOpLine-from_job, slice_get-range, program-op}
+use Rattle.fs_script.proofs.CallerLemmas.{slice_get-range, program-op}
 use Rattle.core_machine.specs.declared.program.Program.{Program}
+use Rattle.core_machine.specs.LegalSoFar.{HasClients}
 use Rattle.core_machine.specs.Turns.{Places, next_in, going, IsInPhase}
 use Rattle.core_machine.specs.Program.{IsLeast, next_of, next_phases, ArePrograms, places_of}
 use Rattle.core_machine.proofs.Programs.LeastPhase.{next_phases-at, next_phases-from}
 use Rattle.core_machine.proofs.Programs.Going.{Goes, none-goes, IsInPhase-from_some}
 
 -- a client with a next line is one of the job's
-pub next_in-within : (v : Places) (r n : ℕ) → IsJob v.job → next_in v r ≡ Some n → r < v.job.shape.clients
+pub next_in-within : (v : Places) (r n : ℕ) → HasClients v.job → next_in v r ≡ Some n → r < v.job.shape.clients
 next_in-within v r n job next =
     let op = program-op v.job r (slice_index v.places r) n next in
-    subst (λ q. q < v.job.shape.clients) op.2 (IsOpLine-from_job v.job n op.0 job op.1).rank
+    subst (λ q. q < v.job.shape.clients) op.2 (job n op.0 op.1)
 
 none-from : (x : Option ℕ) → ((n : ℕ) → x ≡ Some n → ⊥) → x ≡ None
 none-from None never = refl
@@ -58,7 +58,12 @@ module _ (s : Job) (ps : List Program) (are : ArePrograms s ps) where
     pub next_of-at : (k : ℕ) → next_of p ≡ next_in (places_of s ps k) r
     next_of-at k = ap (λ (ls : List ℕ). slice_get ls p.place) lines-at ∙ ap (slice_get (program s r)) (sym place-at)
 
-  module _ (job : IsJob s) (k : ℕ) where
+  -- also of a program that was read at the client's place
+  pub next_of-read : (k r : ℕ) (p : Program) → r < length ps → p ≡ get_or ps r p
+      → next_of p ≡ next_in (places_of s ps k) r
+  next_of-read k r p lt read = next_of-at r p (slice_get_read ps (length ps) r p refl lt read) k
+
+  module _ (job : HasClients s) (k : ℕ) where
     next-phase : (r n : ℕ) → next_in (places_of s ps k) r ≡ Some n → Contains (next_phases s ps) (phase s n)
     next-phase r n next =
         let here = program-at r (next_in-within (places_of s ps k) r n job next) in
@@ -67,9 +72,10 @@ module _ (s : Job) (ps : List Program) (are : ArePrograms s ps) where
     -- where no line comes next the run may be in any phase
     pub IsInPhase-none : next_phases s ps ≡ [] → IsInPhase (places_of s ps k)
     IsInPhase-none none =
-        let v = places_of s ps k in
-        let never : (r n : ℕ) → next_in v r ≡ Some n → ⊥ = λ r n next. (let there = subst (λ (ks : List ℕ). Contains ks (phase s n)) none (next-phase r n next) in omega (arith, there.1)) in
-        record { none_earlier = λ r n next. absurd (never r n next); none_left = λ empty r lt. none-from (next_in v r) (never r) }
+        record { none_earlier = λ r n next. absurd (never r n next); none_left = λ empty r lt. none-from (next_in (places_of s ps k) r) (never r) }
+      where
+        never : (r n : ℕ) → next_in (places_of s ps k) r ≡ Some n → ⊥
+        never r n next = (let there = next-phase r n next in let short = ap length none in omega (arith, there.1))
 
     -- in the least phase of the next lines
     module _ (least : IsLeast (next_phases s ps) k) where
@@ -88,13 +94,15 @@ module _ (s : Job) (ps : List Program) (are : ArePrograms s ps) where
           (λ r n next. All-contains (λ x. k ≤ x) (next_phases s ps) (phase s n) least.least (next-phase r n next)) going-least
 
   -- before the first answer the run is in the least phase of the first lines
-  pub IsInPhase-first : (o : Option ℕ) → IsJob s → IfNone o (next_phases s ps ≡ []) → IfSome o (IsLeast (next_phases s ps))
+  pub IsInPhase-first : (o : Option ℕ) → HasClients s → IfNone o (next_phases s ps ≡ [])
+      → IfSome o (IsLeast (next_phases s ps))
       → IsInPhase (places_of s ps (unwrap_or o 0))
   IsInPhase-first None job none least = IsInPhase-none job 0 none
   IsInPhase-first (Some k) job none least = IsInPhase-least job k least
 
   -- and in phase 0 where there is none
-  pub phase-first : (o : Option ℕ) → IsJob s → IfSome o (IsLeast (next_phases s ps)) → going (places_of s ps (unwrap_or o 0)) ≡ []
+  pub phase-first : (o : Option ℕ) → HasClients s → IfSome o (IsLeast (next_phases s ps))
+      → going (places_of s ps (unwrap_or o 0)) ≡ []
       → unwrap_or o 0 ≡ 0
   phase-first None job least empty = refl
   phase-first (Some k) job least empty = absurd (going-least job k least empty)

@@ -15,8 +15,10 @@ use Rattle.core_machine.proofs.turns.least_phase.Goals as goal
 least : (c : After-min) → reduce min (next_phases c.args.s.now c.args.programs.now) ≡ c.min.result
 least c =
     let of_program = λ (p : Program). option_map (phase c.args.s.now) (next_of p) in
+    let closure = c.filter_map.ensures.closure in
     sym (min_from_yields_List c.filter_map.result c.min.result c.min.ensures.ran
-    (YieldsList-from_filter_map _ of_program (YieldsList-from_slice c.args.programs.now (cc)) c.filter_map.ensures.closure (λ x r q k. search (rules, tests)))) ∙ option_map_id c.min.result
+    (YieldsList-from_filter_map _ of_program (YieldsList-from_slice c.args.programs.now (cc)) closure (λ x r q k. search (rules, tests))))
+    ∙ option_map_id c.min.result
 
 pub returns-clause-none : goal.returns-clause-none
 returns-clause-none c =

@@ -1,4 +1,4 @@
-use Rattle.std.proofs.Common.{◌≡◌, ℕ, zero, suc, ◌∙◌, List, map, replicate, slice_index, refl, sym, ap, subst, arith}
+use Rattle.std.proofs.Common.{◌≡◌, ℕ, zero, suc, ◌∙◌, List, replicate, slice_index, refl, sym, ap, subst, arith}
 use Rattle.core_machine.specs.Turns.{IsInPhase}
 use Rattle.core_machine.specs.Program.{places_of}
 use Rattle.core_machine.proofs.Programs.NextLines.{length-programs, IsInPhase-first, phase-first}
@@ -15,15 +15,16 @@ invariant_of-result c =
     let s = c.args.s.now in
     let ps = c.in_ok-programs.programs.items in
     let are = c.in_ok-programs.ensures.programs in
+    let job = c.in_ok-programs.ensures.job in
     let none = rw c.deref.ensures.value at c.least_phase.ensures.none in
     let least = rw c.deref.ensures.value at c.least_phase.ensures.least in
     record {
-      job = c.in_ok-programs.ensures.job;
+      job = job;
       programs = are;
-      within = λ r. (let start : slice_index (map (λ p. p.place) ps) r ≡ 0 = ap (λ (xs : List ℕ). slice_index xs r) c.in_ok-programs.ensures.places ∙ zero-at s.shape.clients r in omega arith);
+      within = λ r. (let start = ap (λ (xs : List ℕ). slice_index xs r) c.in_ok-programs.ensures.places ∙ zero-at s.shape.clients r in omega arith);
       ready = rw c.deref-2.ensures.value at c.fill_ready.ensures.going;
       room = omega (arith, length-programs s ps are, c.in_ok-ready.ensures.capacity, c.fill_ready.ensures.room, c.len.ensures, c.in_ok-programs.programs.ok.0);
-      phase = subst (λ k. IsInPhase (places_of s ps k)) (sym c.unwrap_or-phase.ensures) (IsInPhase-first s ps are c.least_phase.result c.in_ok-programs.ensures.job none least);
+      phase = subst (λ k. IsInPhase (places_of s ps k)) (sym c.unwrap_or-phase.ensures) (IsInPhase-first s ps are c.least_phase.result job none least);
     }
 
 pub returns-clause-phase : goal.returns-clause-phase
@@ -34,4 +35,5 @@ returns-clause-empty c =
     let s = c.args.s.now in
     let ps = c.in_ok-programs.programs.items in
     let are = c.in_ok-programs.ensures.programs in
-    rw c.unwrap_or-phase.ensures (phase-first s ps are c.least_phase.result c.in_ok-programs.ensures.job (rw c.deref.ensures.value at c.least_phase.ensures.least))
+    let least = rw c.deref.ensures.value at c.least_phase.ensures.least in
+    rw c.unwrap_or-phase.ensures (phase-first s ps are c.least_phase.result c.in_ok-programs.ensures.job least)
