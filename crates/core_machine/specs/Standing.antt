@@ -7,7 +7,6 @@ use Rattle.fs_script.specs.Job.{Job, phase}
 use Rattle.fs_script.specs.Pending.{Answering, pending}
 use Rattle.fs_script.specs.Effect.{state}
 use Rattle.fs_script.specs.Front.{is_open, seen}
-use Rattle.fs_script.specs.Grammar.{IsJob}
 use Rattle.fs_script.specs.Report.{ArePaths}
 use Rattle.core_machine.specs.declared.path_state.OwnedPath.{OwnedPath}
 use Rattle.core_machine.specs.declared.path_state.ClientPath.{ClientPath}
@@ -15,7 +14,7 @@ use Rattle.core_machine.specs.declared.path_state.PathState.{PathState}
 use Rattle.core_machine.specs.Event.{known_of}
 use Rattle.core_machine.specs.Extents.{AreExtents}
 use Rattle.core_machine.specs.Kept.{file_of, known_from, pending_lines}
-use Rattle.core_machine.specs.LegalSoFar.{IsAnsweredUpTo}
+use Rattle.core_machine.specs.LegalSoFar.{HasClients, IsAnsweredUpTo}
 use Rattle.core_machine.specs.Turns.{Places}
 
 -- the line after the script's last
@@ -48,7 +47,7 @@ pub record Stands (s : Job) (A : Answering) (now : ℕ) (p : List ℕ) (x : Path
 
 -- the paths of the job and what is kept for each, the answers, and whose turn it is
 pub record Holds (s : Job) (paths : List (List ℕ)) (states : List PathState) (answers : Given) (turns : Places) : Type 0 where
-  pub job : IsJob s
+  pub job : HasClients s
   pub same : turns.job ≡ s
   pub named : ArePaths s paths
   pub kept : length states ≡ length paths

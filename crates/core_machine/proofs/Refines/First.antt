@@ -9,12 +9,12 @@ use Rattle.std.proofs.lemmas.Option.{slice_get_within, get_or_from_slice_get}
 use Rattle.fs_types.specs.AnswerList.{Given, answer_at}
 use Rattle.fs_script.specs.Job.{Job}
 use Rattle.fs_script.specs.Pending.{Answering}
-use Rattle.fs_script.specs.Grammar.{IsJob}
 use Rattle.fs_script.specs.Report.{ArePaths}
 use Rattle.core_machine.specs.declared.path_state.OwnedPath.{OwnedPath}
 use Rattle.core_machine.specs.declared.path_state.ClientPath.{ClientPath}
 use Rattle.core_machine.specs.declared.path_state.PathState.{PathState}
 use Rattle.core_machine.specs.Kept.{IsFreshOwner, IsFreshClient, IsFreshPath}
+use Rattle.core_machine.specs.LegalSoFar.{HasClients}
 use Rattle.core_machine.specs.Moment.{IsFirst}
 use Rattle.core_machine.specs.Turns.{Places}
 use Rattle.core_machine.specs.MomentKept.{client_at, moment_of}
@@ -52,7 +52,7 @@ path-fresh s now p x fresh = record {
 }
 
 -- nothing is kept yet, and that stands for no answers
-pub Holds-first : (s : Job) (paths : List (List ℕ)) (states : List PathState) (answers : Given) (turns : Places) → IsJob s → ArePaths s paths → length states ≡ length paths
+pub Holds-first : (s : Job) (paths : List (List ℕ)) (states : List PathState) (answers : Given) (turns : Places) → HasClients s → ArePaths s paths → length states ≡ length paths
     → All (IsFreshPath s.shape.clients) states → answers.list ≡ [] → answers.lines ≡ length s.lines + 1 → turns.job ≡ s → turns.places ≡ replicate s.shape.clients 0 → Holds s paths states answers turns
 Holds-first s paths states answers turns job named sized fresh empty room same places = record {
   job = job;

@@ -63,7 +63,7 @@ module _ {s : Job} {paths : List (List ℕ)} {states : List PathState} {answers 
   none_earlier : (k : ℕ) (o : OpLine) → op_at s k ≡ Some o → is_some (answer_at answers.list k) ≡ false → now ≤ phase s k
   none_earlier k o is fresh =
       let r = o.rank in
-      let within = (IsOpLine-from_job s k o held.job is).rank in
+      let within = held.job k o is in
       let at = program-place s k o is in
       let past = ltb-false at.0 (slice_index places r) (sym (held.upto r within at.0 k at.1) ∙ fresh) in
       let inside = slice_get_within (program s r) at.0 k at.1 in

@@ -5,6 +5,16 @@ use Rattle.core_machine.specs.Moment.{Moment, events_left}
 use Rattle.core_machine.proofs.Refines.Goes.{ready-going, goes-some, nearer}
 use Rattle.core_machine.proofs.run.advance.Goals as goal
 
+pub answer_line-requires-clause-going : goal.answer_line-requires-clause-going
+answer_line-requires-clause-going c =
+    let r = c.args.run.now in
+    (ready-going r.script.now r.paths r.states.items r.answers r.turns r.spent c.args.r c.requires.run.holds c.requires.run.phases c.requires.ready).1
+
+pub go_on-requires-clause-going : goal.go_on-requires-clause-going
+go_on-requires-clause-going c =
+    let r = c.args.run.now in
+    (ready-going r.script.now r.paths r.states.items r.answers r.turns r.spent c.args.r c.requires.run.holds c.requires.run.phases c.requires.ready).1
+
 pub returns-in-Ok-clause-nearer : goal.returns-in-Ok-clause-nearer
 returns-in-Ok-clause-nearer c =
     let r = c.args.run.now in
