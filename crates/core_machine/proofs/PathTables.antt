@@ -212,7 +212,7 @@ Contains-from_op_at s zero o is = absurd cc
 Contains-from_op_at s (suc zero) o is = absurd cc
 Contains-from_op_at s (suc (suc k)) o is = Contains-fold-from_line [] s.lines k o is
 
--- the paths of a job's lines in byte order are those that it Contains-fold-from_line
+-- the paths of a job's lines in byte order are those that it names
 pub ArePaths-from_sort : {A : Type 0} (s : Job) (vs ws : List (Vec ℕ A)) → texts vs ≡ paths_of s.lines → IsPermutation vs ws → AreRising (texts ws) → ArePaths s (texts ws)
 ArePaths-from_sort s vs ws are moved rising =
     let texts_moved = IsPermutation-map (λ v. v.items) vs ws moved in

@@ -1,25 +1,7 @@
 -- Whose turn it may be in a job of two clients with a barrier between their lines, worked out by hand.
 use Rattle.std.proofs.Common.{◌≡◌, [], ◌∷◌, Some, None, refl}
-use Rattle.std.specs.Prelude.{codes}
-use Rattle.fs_script.specs.declared.line.Line.TheVariants as lines
-use Rattle.fs_script.specs.declared.line.Op.TheVariants as ops
-use Rattle.fs_script.specs.declared.line.Data.TheVariants.{Text}
-use Rattle.fs_script.specs.Job.{Job}
-use Rattle.fs_script.proofs.CallerLemmas.{path_a, on_a}
 use Rattle.core_machine.specs.Turns.{Places, next_in, going}
-
--- client 0 makes a file; after the barrier it writes line 4 and commits it by line 6, and line 5 is client 1's
-abbrev two_clients : Job
-two_clients = record {
-  shape = record { servers = 1; clients = 2; chunk = 64; shmem = 4; spill = 0 };
-  lines =
-      lines.Op (on_a ops.Create)
-      ∷ lines.Barrier
-      ∷ lines.Op (on_a (ops.Write 0 (Text (codes "hi"))))
-      ∷ lines.Op (record { rank = 1; path = path_a; op = ops.Create })
-      ∷ lines.Op (on_a ops.Sync)
-      ∷ [];
-}
+use Rattle.core_machine.proofs.TwoClients.{two_clients}
 
 -- client 1 has a line, which is of a later phase
 start : going (record { job = two_clients; places = 0 ∷ 0 ∷ []; phase = 0 }) ≡ 0 ∷ []

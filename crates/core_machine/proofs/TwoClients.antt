@@ -13,7 +13,7 @@ use Rattle.core_machine.specs.Step.{Turn, step}
 
 -- client 0 makes a file; after the barrier it writes line 4 and commits it, and client 1 tries to
 -- make the file again
-abbrev two_clients : Job
+abbrev pub two_clients : Job
 two_clients = record {
   shape = record { servers = 1; clients = 2; chunk = 64; shmem = 4; spill = 0 };
   lines =

@@ -1,6 +1,7 @@
 //! What one write brings to a file, and the bytes that several of them make.
 
 ghost use Rattle.std.specs.Prelude.{◌≡◌, ℕ, ◌+◌, ◌-◌, ◌^◌, ◌<◌, ◌≤◌, ◌&&◌, nat_le, nat_lt, length, slice_index, replicate, if◌then◌else◌, IfOk};
+ghost use Rattle.fs_types.specs.declared.limits.TheConstants.{LONGEST_FILE};
 ghost use Rattle.fs_types.specs.Overwrite.{shown};
 ghost use Rattle.fs_script.specs.Payload.{payload};
 ghost use Rattle.core_machine.specs.Extents.{AreExtents, IsExtent, bytes_of_extents, byte_over};
@@ -24,7 +25,7 @@ pub struct Extent {
 pub fn covered(s: &Script, extents: &[Extent]) -> u64
     requires { AreExtents s.now extents.now }
     ensures length { result ≡ length (bytes_of_extents s.now extents.now) }
-    ensures most { result ≤ 2 ^ 40 }
+    ensures most { result ≤ LONGEST_FILE }
 {
     let mut end = 0u64;
     for x in extents {
@@ -70,7 +71,7 @@ pub fn read_extents(
 ) -> Result<Vec<u8>, Want>
     requires extents { AreExtents s.now extents.now }
     requires within { off + len ≤ length (bytes_of_extents s.now extents.now) }
-    requires bounded { off + len ≤ 2 ^ 40 }
+    requires bounded { off + len ≤ LONGEST_FILE }
     ensures { IfOk result (λ v. v.items ≡ shown (bytes_of_extents s.now extents.now) off len) }
 {
     let mut out = vec![in alloc; 0u8; len as usize]?;

@@ -3,7 +3,7 @@
 use Rattle.std.proofs.Common.{◌≡◌, ℕ, zero, suc, ◌+◌, ◌≤◌, ◌<◌, Bool, true, false, List, [], ◌∷◌, ◌++◌, map, length, take, get_or, slice_get, count_by, cond, Option, Some, None, IsSome, is_some, ◌⊎◌, inl, inr, true≢false, refl, sym, ap, ◌∙◌, subst, subst₂, take-take, All, arith}
 use Rattle.std.specs.List.{AllByRecursion, filter, range_with_len}
 use Rattle.std.proofs.lemmas.Bool.{cond_both, cond-true, cases_eq, cases_order}
-use Rattle.std.proofs.lemmas.Option.{none-some, same_Some, slice_get_past, slice_get_within, slice_get-get_or, get_or_from_slice_get}
+use Rattle.std.proofs.lemmas.Option.{none-some, same_Some, slice_get_within, slice_get-get_or, get_or_from_slice_get}
 use Rattle.std.proofs.lemmas.List.{length-map, length_push, get_or-map, get_or_append_left}
 use Rattle.std.proofs.lemmas.List.Elements.{All-from_recursion, recursion_from_All, All-take, All-push, All-filter, filter_passes}
 use Rattle.std.proofs.lemmas.List.FromFn.{length-range_with_len, get_or-range_with_len}
@@ -94,9 +94,6 @@ range-push a (suc k) =
 pub slice_get-range : (a k i : ℕ) → i < k → slice_get (range_with_len a k) i ≡ Some (a + i)
 slice_get-range a k i lt =
     slice_get-get_or (range_with_len a k) i 0 (omega (arith, length-range_with_len a k)) ∙ ap Some (get_or-range_with_len a k i 0 lt)
-
-pub slice_get-range_past : (a k i : ℕ) → k ≤ i → slice_get (range_with_len a k) i ≡ None
-slice_get-range_past a k i le = slice_get_past (range_with_len a k) i (omega (arith, length-range_with_len a k))
 
 -- ---- the numbers of a range that pass a test
 

@@ -10,6 +10,7 @@ use Rattle.fs_types.specs.declared.answer.Answer.TheVariants as answers
 use Rattle.fs_types.specs.declared.answer.Body.{Body}
 use Rattle.fs_types.specs.declared.answer.Body.TheVariants as bodies
 use Rattle.fs_types.specs.declared.limits.TheConstants.{HEX_LIMIT}
+use Rattle.fs_script.specs.declared.limits.TheConstants.{TRANSFER_LIMIT}
 use Rattle.fs_types.specs.Overwrite.{shown}
 use Rattle.fs_types.specs.PlainFile.{File}
 use Rattle.fs_types.proofs.CallerLemmas.{length-shown}
@@ -33,7 +34,7 @@ use Rattle.fs_script.proofs.JournalLines.{length-journal}
 
 -- ---- slots
 
-parts_are_few : (len chunk slots : ℕ) → len ≤ 2 ^ 24 → slots ≡ div_ceil len chunk → slots < 2 ^ 32
+parts_are_few : (len chunk slots : ℕ) → len ≤ TRANSFER_LIMIT → slots ≡ div_ceil len chunk → slots < 2 ^ 32
 parts_are_few len chunk slots short is = omega (arith, div-le_self len chunk)
 
 -- no write fills more slots than it has bytes

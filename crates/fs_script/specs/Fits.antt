@@ -52,7 +52,8 @@ pub record Shows (compared : Type 0) (bytes : List ℕ) (n : ℕ) (body : Body) 
 abbrev pub AgreesWithOpen : Op → Bool → Answer → Type 0
 AgreesWithOpen op is_open a = MatchBool (needs_open op) (is_badf a ≡ not is_open) (Unit {0})
 
--- what a line's answer is checked against: f is the file at each version, now the front, q the pending lines
+-- what a line's answer is checked against: its number, its path's journal and file at each version, its front, and the
+-- pending lines
 pub record LineView : Type 0 where
   pub number : ℕ
   pub journal : List ℕ

@@ -43,6 +43,17 @@ abbrev pub FinishedJobsAreLegal : Type 0
 FinishedJobsAreLegal = (told : List ℕ) (s : Job) (R : Report) → HasShape s R → FilesAreStates s R
     → IsLegalSoFar told s (answers_of R) (journal_of R.journals) → IsLegal s R told
 
+-- ---- the texts of printable reports
+
+-- two printable reports with one text are one report
+abbrev pub OnePrintableReport : Type 0
+OnePrintableReport = (R S : Report) → IsPrintable R → IsPrintable S → text R ≡ text S → R ≡ S
+
+-- no text of a printable report goes on after that of another
+abbrev pub PrintableTextIsWhole : Type 0
+PrintableTextIsWhole = (R S : Report) (more : List ℕ)
+    → IsPrintable R → IsPrintable S → text R ++ more ≡ text S → more ≡ []
+
 -- ---- the texts of legal reports, where the bytes that they show are compared
 
 -- each number of a legal report fits the type that holds it, each byte is one, and each path is a path

@@ -12,13 +12,11 @@ use crate::outside::{ReadAllNo, Source, read_all};
 use crate::refusal::refusal_text;
 use crate::run::simulate;
 use crate::text::report_text;
+use fs_script::limits::SCRIPT_LIMIT;
 use fs_script::{Script, ScriptFault, read_script};
 use fs_types::{Status, Want};
 use std::alloc::Global;
 use thiserror::Error;
-
-/// The most bytes of a script.
-const SCRIPT_LIMIT: usize = 4_194_304;
 
 /// A text that is to be written, and the status of the command once it is.
 #[derive(Debug, Drop)]

@@ -1,19 +1,17 @@
 -- One event keeps a moment legal: each invariant after it, by whether it brings an answer.
-use Rattle.std.proofs.Common.{◌≡◌, ◌≢◌, ℕ, ◌+◌, ◌<◌, Bool, true, false, cond, ltb, lt-ltb, List, length, map, Option, Some, None, IsSome, is_some, slice_get, Contains, refl, sym, ap, ◌∙◌, subst, subst₂, inl, inr, arith}
+use Rattle.std.proofs.Common.{◌≡◌, ◌≢◌, ℕ, ◌<◌, Bool, true, false, cond, List, length, map, Option, Some, None, IsSome, is_some, Contains, refl, sym, ap, ◌∙◌, subst, subst₂, inl, inr, arith}
 use Rattle.std.proofs.lemmas.Bool.{cases_eq}
-use Rattle.std.proofs.lemmas.Bool.Decides.{nat_tests}
 use Rattle.std.proofs.lemmas.List.{get_or-set_same, get_or-set_other, length-set}
-use Rattle.std.proofs.lemmas.Option.{same_Some}
 use Rattle.fs_types.specs.declared.answer.Answer.{Answer}
 use Rattle.fs_types.specs.AnswerList.{answer_at, put_answer}
 use Rattle.fs_types.proofs.CallerLemmas.{IsRisingFrom-put_answer}
-use Rattle.fs_script.specs.Job.{op_at, phase, is_of_rank, program}
+use Rattle.fs_script.specs.Job.{op_at, phase}
 use Rattle.fs_script.specs.Pending.{Answering, pending}
 use Rattle.fs_script.specs.Journal.{commit_of, commit_by}
 use Rattle.fs_script.specs.Report.{journal_of, ArePaths}
 use Rattle.fs_script.specs.Growth.{AddsAnswer}
 use Rattle.fs_script.specs.SoFar.{IsLegalSoFar, IsNextAnswer}
-use Rattle.fs_script.proofs.CallerLemmas.{pending-agree, AddsAnswer-put, AgreeBefore-next, passing-places, program-op, IsLegalSoFar-kept, IsLegalSoFar-commit}
+use Rattle.fs_script.proofs.CallerLemmas.{pending-agree, AddsAnswer-put, AgreeBefore-next, IsLegalSoFar-kept, IsLegalSoFar-commit}
 use Rattle.core_machine.specs.Doing.{Doing}
 use Rattle.core_machine.specs.Moment.{Client, Moment, fresh_client, printed, answering, client_of, journal, with_entry, ready}
 use Rattle.core_machine.specs.Event.{Event}
@@ -23,7 +21,8 @@ use Rattle.core_machine.proofs.Legal.Event.{now, IsLegalAnswer, IsLegalOutcome}
 use Rattle.core_machine.proofs.Legal.Events.{event_of-legal}
 use Rattle.core_machine.proofs.Legal.Journals.{paths-with_entry, Pushes-with_entry}
 use Rattle.core_machine.proofs.Legal.Phases.{begun-answered}
-use Rattle.core_machine.proofs.Legal.Turns.{IsTurn, IsTurn-from_ready, step-is, answered_up_to, comes_next, no_later_phase, coming}
+use Rattle.core_machine.proofs.Places.{upto-own, upto-other}
+use Rattle.core_machine.proofs.Legal.Turns.{IsTurn, IsTurn-from_ready, step-is, answered_up_to, stands, comes_next, no_later_phase, coming}
 
 -- ---- the clients after any event
 
@@ -75,9 +74,6 @@ module _ {told : List ℕ} {m : Moment} {r : ℕ} (t : IsTurn told m r) (doing :
 
 -- ---- an event that brings an answer
 
-ltb-next : (k place : ℕ) → k ≢ place → ltb k place ≡ ltb k (place + 1)
-ltb-next k place other = grind (arith, nat_tests)
-
 module _ {told : List ℕ} {m : Moment} {r : ℕ} (t : IsTurn told m r) (a : Answer) where
   open t use {number as n, line as o, so_far, is}
 
@@ -91,30 +87,12 @@ module _ {told : List ℕ} {m : Moment} {r : ℕ} (t : IsTurn told m r) (a : Ans
   adds : AddsAnswer (printed m) n a B
   adds = AddsAnswer-put m.answers n a
 
-  -- the client's place is one more
-  own_place : IsAnsweredUpTo m.job B r ((client_of m r).place + 1)
-  own_place k j at =
-      let place = (client_of m r).place in
-      let places = passing-places (λ i. is_of_rank r (op_at m.job i)) 2 (length m.job.lines) in
-      elim (cases_eq j n) [
-        | inl here ↦
-            let same = places k place n (at ∙ ap Some here) t.next in
-            ap (λ i. is_some (B i)) here ∙ ap is_some adds.added
-            ∙ sym (lt-ltb k (place + 1) (omega arith))
-        | inr other ↦
-            let another : k ≢ place = λ e.
-            other (same_Some j n (sym at ∙ ap (slice_get (program m.job r)) e ∙ t.next)) in
-            ap is_some (adds.others j other) ∙ answered_up_to t k j at ∙ ltb-next k place another
-      ]
-
-  -- another client's stays
+  -- another client's place stays
   other_place : (i : ℕ) → i ≢ r → i < m.job.shape.clients
       → IsAnsweredUpTo m.job B i (client_of m i).place
-  other_place i other within k j at =
-      let op = program-op m.job i k j at in
-      let same : j ≡ n → i ≡ r = λ e. sym op.2
-      ∙ ap (λ l. l.rank) (same_Some op.0 o (sym op.1 ∙ ap (op_at m.job) e ∙ is)) ∙ t.rank in
-      ap is_some (adds.others j (λ e. other (same e))) ∙ so_far.places i within k j at
+  other_place i other within =
+      let apart : o.rank ≢ i = λ e. other (sym e ∙ t.rank) in
+      upto-other m.job (printed m) B i n (client_of m i).place o a adds is apart (so_far.places i within)
 
   operations-after : (i : ℕ) → IsSome (B i) → IsSome (op_at m.job i)
   operations-after i given = elim (cases_eq i n) [
@@ -176,7 +154,7 @@ module _ {told : List ℕ} {m : Moment} {r : ℕ} (t : IsTurn told m r) (a : Ans
   answered-legal committed doing k = record {
     job = so_far.job;
     clients = clients-after t (ends committed doing);
-    places = places-after t (ends committed doing) B own_place other_place;
+    places = places-after t (ends committed doing) B (upto-own (stands t) B a adds) other_place;
     operations = operations-after;
     phases = phases-after;
     rising = IsRisingFrom-put_answer m.answers 0 n a (omega arith) so_far.rising;

@@ -1,16 +1,17 @@
 -- A client's turn: the line that comes next, and what is known as it comes.
-use Rattle.std.proofs.Common.{◌≡◌, ℕ, ◌≤◌, ◌<◌, true, List, [], length, Option, Some, None, IsSome, is_some, slice_get, Contains, true≢false, refl, sym, ap, ◌∙◌, subst, inl, inr, arith}
+use Rattle.std.proofs.Common.{◌≡◌, ℕ, ◌≤◌, ◌<◌, true, List, [], Option, Some, None, IsSome, is_some, Contains, true≢false, refl, sym, ap, ◌∙◌, subst, inl, inr, arith}
 use Rattle.std.specs.List.{filter, range_with_len}
-use Rattle.std.proofs.lemmas.Bool.{cond_both, cases_lt, ltb-true, le-ltb}
+use Rattle.std.proofs.lemmas.Bool.{cond_both, cases_lt}
 use Rattle.std.proofs.lemmas.List.Elements.{All-contains, filter_passes}
 use Rattle.std.proofs.lemmas.Option.{same_Some}
 use Rattle.fs_script.specs.declared.line.OpLine.{OpLine}
-use Rattle.fs_script.specs.Job.{op_at, phase, rank_in, is_of_rank, program}
+use Rattle.fs_script.specs.Job.{op_at, phase, rank_in}
 use Rattle.fs_script.specs.Growth.{ComesNext}
-use Rattle.fs_script.proofs.CallerLemmas.{some_of, AllByRecursion-from_get, answered-in_journal, passing-rise, program-place, program-op, none_from-is_some}
+use Rattle.fs_script.proofs.CallerLemmas.{some_of, AllByRecursion-from_get, answered-in_journal, program-op}
 use Rattle.core_machine.specs.Moment.{Moment, printed, answering, client_of, journal, has_begun, may_come, next_line, ready}
 use Rattle.core_machine.specs.Step.{after_event, event_at, step_line, step_at, step}
 use Rattle.core_machine.specs.LegalSoFar.{IsAnsweredUpTo, IsLegalMoment}
+use Rattle.core_machine.proofs.Places.{StandsNext, unanswered, before}
 use Rattle.core_machine.proofs.Legal.Event.{NextLine}
 
 -- no line counts before it is printed
@@ -69,31 +70,17 @@ module _ {told : List ℕ} {m : Moment} {r : ℕ} (t : IsTurn told m r) where
   pub answered_up_to : IsAnsweredUpTo m.job (printed m) r (client_of m r).place
   answered_up_to = so_far.places r (subst (λ i. i < m.job.shape.clients) rank (so_far.job n o is))
 
-  fresh : printed m n ≡ None
-  fresh =
-      let place = (client_of m r).place in
-      let not_yet = answered_up_to place n next ∙ le-ltb place place (omega arith) in
-      none_from-is_some (printed m n) not_yet
-
-  -- a line of the client that has an answer stands before it
-  before_next : (k : ℕ) (l : OpLine) → IsSome (printed m k) → op_at m.job k ≡ Some l → l.rank ≡ r
-      → k < n
-  before_next k l given op of_client =
-      let place = (client_of m r).place in
-      let at = program-place m.job k l op in
-      let there = subst (λ i. slice_get (program m.job i) at.0 ≡ Some k) of_client at.1 in
-      let below = ltb-true at.0 place (sym (answered_up_to at.0 k there) ∙ given) in
-      let rises = passing-rise (λ i. is_of_rank r (op_at m.job i)) 2 (length m.job.lines) in
-      rises at.0 place k n below there next
+  pub stands : StandsNext m.job (printed m) r (client_of m r).place n
+  stands = record { upto = answered_up_to; here = next }
 
   pub comes_next : ComesNext m.job (answering m) n
   comes_next = record {
-    fresh = fresh;
+    fresh = unanswered stands;
     last = λ k a counts same.
         let given = printed-counted m k (ap is_some counts) in
         let op = some_of (op_at m.job k) (so_far.operations k given) in
         let of_client = sym (ap rank_in op.1) ∙ same ∙ ap rank_in is ∙ ap Some rank in
-        before_next k op.0 given op.1 (same_Some op.0.rank r of_client);
+        before stands k op.0 given op.1 (same_Some op.0.rank r of_client);
   }
 
   -- no line that was answered is of a later phase
@@ -101,7 +88,7 @@ module _ {told : List ℕ} {m : Moment} {r : ℕ} (t : IsTurn told m r) where
   no_later_phase k counts = elim (cases_lt (phase m.job n) (phase m.job k)) [
     | inl before ↦
         let given = so_far.phases k n (printed-counted m k counts) (ap is_some is) before in
-        absurd (true≢false (sym given ∙ ap is_some fresh))
+        absurd (true≢false (sym given ∙ ap is_some (unanswered stands)))
     | inr other ↦ other
   ]
 

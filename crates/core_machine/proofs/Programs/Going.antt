@@ -18,7 +18,8 @@ pub record Goes (v : Places) (r n : ℕ) : Type 0 where
   pub next : next_in v r ≡ Some n
   pub of_phase : phase v.job n ≡ v.phase
 
-line-of_phase : (s : Job) (k : ℕ) (x : Option ℕ) → is_of_phase s k x ≡ true
+-- a line of a phase is one
+pub line-of_phase : (s : Job) (k : ℕ) (x : Option ℕ) → is_of_phase s k x ≡ true
     → (n : ℕ) × (x ≡ Some n) × (phase s n ≡ k)
 line-of_phase s k None of = absurd (true≢false (sym of))
 line-of_phase s k (Some n) of = (n, refl, eqb-true (phase s n) k of)

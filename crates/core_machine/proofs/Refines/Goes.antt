@@ -1,20 +1,22 @@
 -- A client that goes: it is one of the job's, and its next line is of the run's phase. Its step brings the run nearer to its end.
-use Rattle.std.proofs.Common.{◌≡◌, ℕ, zero, suc, ◌+◌, ◌-◌, ◌≤◌, ◌<◌, Bool, true, false, List, [], ◌∷◌, length, Some, Contains, slice_index, slice_get, sum_by, refl, sym, ap, ◌∙◌, subst, inl, inr, arith, eqb-true}
+use Rattle.std.proofs.Common.{◌≡◌, ℕ, zero, suc, ◌+◌, ◌-◌, ◌≤◌, ◌<◌, Bool, true, false, List, [], ◌∷◌, length, Some, Contains, slice_index, slice_get, sum_by, refl, sym, ap, ◌∙◌, subst, inl, inr, arith}
 use Rattle.std.specs.List.{range_with_len}
 use Rattle.std.proofs.lemmas.Bool.{cases_eq}
 use Rattle.std.proofs.lemmas.List.{get_or-set_same, get_or-set_other}
 use Rattle.std.proofs.lemmas.List.Sums.{sum_by-cons}
-use Rattle.std.proofs.lemmas.Option.{slice_get-get_or, slice_get_within}
+use Rattle.std.proofs.lemmas.Option.{same_Some, slice_get_within}
 use Rattle.fs_types.specs.AnswerList.{Given}
 use Rattle.fs_script.specs.Job.{Job, phase, program}
-use Rattle.fs_script.proofs.CallerLemmas.{passes}
 use Rattle.core_machine.specs.declared.path_state.PathState.{PathState}
-use Rattle.core_machine.specs.Turns.{Places, IsInPhase, going, next_in, is_of_phase}
+use Rattle.core_machine.specs.Turns.{Places, IsInPhase, going, next_in}
 use Rattle.core_machine.specs.Moment.{events_left, ready}
 use Rattle.core_machine.specs.MomentKept.{moment_of, after_line}
 use Rattle.core_machine.specs.Standing.{Holds}
 use Rattle.core_machine.proofs.Refines.Moments.{client_of-places}
-use Rattle.core_machine.proofs.Refines.Ready.{passing-below, line-of_phase, ready-kept}
+use Rattle.core_machine.specs.LegalSoFar.{HasClients}
+use Rattle.core_machine.proofs.Programs.Going.{Goes-from_Contains}
+use Rattle.core_machine.proofs.Programs.NextLines.{next_in-within}
+use Rattle.core_machine.proofs.Refines.Ready.{ready-kept}
 
 -- client r, whose next line is n, goes in the run's phase
 pub record Goes (s : Job) (turns : Places) (r n : ℕ) : Type 0 where
@@ -22,17 +24,14 @@ pub record Goes (s : Job) (turns : Places) (r n : ℕ) : Type 0 where
   pub next : slice_get (program s r) (slice_index turns.places r) ≡ Some n
   pub now : phase s n ≡ turns.phase
 
-goes-in : (v : Places) (r n : ℕ) → Contains (going v) r → next_in v r ≡ Some n → Goes v.job v r n
-goes-in v r n has next =
-    let at : slice_get (going v) has.0 ≡ Some r = slice_get-get_or (going v) has.0 r has.1 ∙ ap Some has.2 in
-    let test = λ (i : ℕ). is_of_phase v.job v.phase (next_in v i) in
-    let pass = (passes test 0 v.job.shape.clients has.0 r at).0 in
-    let below = passing-below test 0 v.job.shape.clients has.0 r at in
-    record { within = omega arith; next = next; now = eqb-true (phase v.job n) v.phase (sym (ap (is_of_phase v.job v.phase) next) ∙ pass) }
-
 pub goes-kept : (s : Job) (paths : List (List ℕ)) (states : List PathState) (answers : Given) (turns : Places) (r n : ℕ) → Holds s paths states answers turns
     → Contains (going turns) r → next_in turns r ≡ Some n → Goes s turns r n
-goes-kept s paths states answers turns r n held has next = subst (λ j. Goes j turns r n) held.same (goes-in turns r n has next)
+goes-kept s paths states answers turns r n held has next =
+    let goes = Goes-from_Contains turns r has in
+    let same = same_Some goes.0 n (sym goes.1.next ∙ next) in
+    let clients = subst HasClients (sym held.same) held.job in
+    subst (λ j. Goes j turns r n) held.same
+    (record { within = next_in-within turns r n clients next; next = next; now = ap (phase turns.job) (sym same) ∙ goes.1.of_phase })
 
 -- a client that is ready goes, and has a next line; memory didn't run out
 pub ready-going : (s : Job) (paths : List (List ℕ)) (states : List PathState) (answers : Given) (turns : Places) (spent : Bool) (r : ℕ) → (spent ≡ false → Holds s paths states answers turns) → IsInPhase turns
@@ -42,10 +41,8 @@ ready-going s paths states answers turns false r holds phases has = (refl, subst
 
 pub goes-some : (s : Job) (paths : List (List ℕ)) (states : List PathState) (answers : Given) (turns : Places) (r : ℕ) → Holds s paths states answers turns → Contains (going turns) r → (n : ℕ) × Goes s turns r n
 goes-some s paths states answers turns r held has =
-    let at : slice_get (going turns) has.0 ≡ Some r = slice_get-get_or (going turns) has.0 r has.1 ∙ ap Some has.2 in
-    let test = λ (i : ℕ). is_of_phase turns.job turns.phase (next_in turns i) in
-    let line = line-of_phase turns.job turns.phase (next_in turns r) (passes test 0 turns.job.shape.clients has.0 r at).0 in
-    (line.0, goes-kept s paths states answers turns r line.0 held has line.1)
+    let line = Goes-from_Contains turns r has in
+    (line.0, goes-kept s paths states answers turns r line.0 held has line.1.next)
 
 -- ---- the events that are left
 

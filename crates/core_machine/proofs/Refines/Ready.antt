@@ -2,12 +2,12 @@
 use Rattle.std.proofs.Common.{◌≡◌, ℕ, zero, suc, ◌+◌, ◌≤◌, ◌<◌, Bool, true, false, cond, List, [], ◌∷◌, length, Option, Some, None, is_some, slice_index, true≢false, refl, sym, ap, ◌∙◌, subst, inl, inr, arith, eq-eqb}
 use Rattle.std.specs.Prelude.{filter}
 use Rattle.std.specs.List.{slice_get, range_with_len}
-use Rattle.std.proofs.lemmas.Bool.{cases_Bool, cond_both, cases_lt, false_from_ne_true, ltb-false, le-leb, or_left, or_right, ne_eqb, eqb-true}
+use Rattle.std.proofs.lemmas.Bool.{cases_Bool, cases_lt, false_from_ne_true, ltb-false, le-leb, or_left, or_right, ne_eqb}
 use Rattle.std.proofs.lemmas.Option.{none-some, same_Some, slice_get-get_or, slice_get_within}
 use Rattle.fs_types.specs.AnswerList.{Given, answer_at}
 use Rattle.fs_script.specs.declared.line.OpLine.{OpLine}
 use Rattle.fs_script.specs.Job.{Job, op_at, is_of_rank, phase, program}
-use Rattle.fs_script.proofs.CallerLemmas.{phase-rises, IsOpLine-from_job, passes, passing-rise, program-place, program-op}
+use Rattle.fs_script.proofs.CallerLemmas.{phase-rises, passes, passing-rise, program-place, program-op}
 use Rattle.core_machine.specs.declared.path_state.PathState.{PathState}
 use Rattle.core_machine.specs.Moment.{Moment, has_begun, may_come, next_line, ready}
 use Rattle.core_machine.specs.Turns.{Places, IsInPhase, going, next_in, is_of_phase}
@@ -15,6 +15,8 @@ use Rattle.core_machine.specs.MomentKept.{moment_of}
 use Rattle.core_machine.specs.Standing.{Holds}
 use Rattle.core_machine.proofs.Legal.Phases.{has_begun-from, begun-answered}
 use Rattle.core_machine.proofs.Places.{StandsNext, unanswered}
+use Rattle.core_machine.proofs.Programs.Going.{line-of_phase}
+use Rattle.core_machine.proofs.Programs.NextLines.{next_in-within}
 use Rattle.core_machine.proofs.Refines.Moments.{client_of-places}
 
 -- tests that agree at each number of a range keep the same numbers
@@ -24,23 +26,6 @@ filter-range p q a (suc len) agree =
     let rest = filter-range p q (a + 1) len (λ n from to. agree n (omega arith) (omega arith)) in
     ap (λ b. cond b (a ∷ filter p (range_with_len (a + 1) len)) (filter p (range_with_len (a + 1) len))) (agree a (omega arith) (omega arith))
     ∙ ap (λ ns. cond (q a) (a ∷ ns) ns) rest
-
--- a number of a range that passes a test is below its end
-first-below : (a : ℕ) (xs : List ℕ) (k n top : ℕ) → a < top → ((j : ℕ) → slice_get xs j ≡ Some n → n < top) → slice_get (a ∷ xs) k ≡ Some n → n < top
-first-below a xs zero n top lt later at = subst (λ m. m < top) (same_Some a n at) lt
-first-below a xs (suc k) n top lt later at = later k at
-
-pub passing-below : (P : ℕ → Bool) (a len k n : ℕ) → slice_get (filter P (range_with_len a len)) k ≡ Some n → n < a + len
-passing-below P a zero k n at = absurd (none-some n at)
-passing-below P a (suc len) k n at =
-    let rest = filter P (range_with_len (a + 1) len) in
-    let later : (j : ℕ) → slice_get rest j ≡ Some n → n < a + suc len = λ j h. let r = passing-below P (a + 1) len j n h in omega arith in
-    cond_both (P a) (a ∷ rest) rest (λ xs. slice_get xs k ≡ Some n → n < a + suc len) (λ _. first-below a rest k n (a + suc len) (omega arith) later) (λ _. later k) at
-
--- a line of a phase is one
-pub line-of_phase : (s : Job) (now : ℕ) (x : Option ℕ) → is_of_phase s now x ≡ true → (k : ℕ) × (x ≡ Some k) × (phase s k ≡ now)
-line-of_phase s now None is = absurd (true≢false (sym is))
-line-of_phase s now (Some k) is = (k, refl, eqb-true (phase s k) now is)
 
 module _ {s : Job} {paths : List (List ℕ)} {states : List PathState} {answers : Given} {places : List ℕ} {now : ℕ}
     (held : Holds s paths states answers (record { job = s; places = places; phase = now })) (phases : IsInPhase (record { job = s; places = places; phase = now })) where
@@ -96,8 +81,7 @@ module _ {s : Job} {paths : List (List ℕ)} {states : List PathState} {answers 
         let at : slice_get (going turns) 0 ≡ Some q = ap (λ xs. slice_get xs 0) e in
         let pass = (passes (λ i. is_of_phase s now (next_in turns i)) 0 s.shape.clients 0 q at).0 in
         let line = line-of_phase s now (next_in turns q) pass in
-        let below = passing-below (λ i. is_of_phase s now (next_in turns i)) 0 s.shape.clients 0 q at in
-        (q, line.0, omega arith, line.1, line.2)
+        (q, line.0, next_in-within turns q line.0 held.job line.1, line.1, line.2)
 
   -- and a line of a later phase hasn't
   waits : (r n : ℕ) → r < s.shape.clients → next_in turns r ≡ Some n → now < phase s n → has_begun m n ≡ false

@@ -7,6 +7,7 @@ use Rattle.std.specs.Fmt.{decimal}
 use Rattle.std.proofs.lemmas.Bool.{and_from, and_parts, eq-eqb, eqb-true, le-leb, leb-true}
 use Rattle.std.proofs.lemmas.Option.{same_Some}
 use Rattle.std.proofs.lemmas.Slice.Eq.{bytes_eq-Decides}
+use Rattle.fs_script.specs.declared.limits.TheConstants.{LEAST_CHUNK, MOST_CHUNK, CHUNK_UNIT, MEMORY_SLOTS, MEMORY_BYTES}
 use Rattle.fs_script.specs.declared.shape.Shape.{Shape}
 use Rattle.fs_script.specs.Grammar.{header_text, IsShape}
 use Rattle.fs_script.specs.Reading.{◌>>=◌, field_of, words_of, is_shape, checked_shape, shape_of, header_of_words, header_of}
@@ -28,12 +29,12 @@ shape_tested h e =
     record {
       servers = eqb-true h.servers 1 j.0;
       clients = eqb-true h.clients 1 j.1;
-      chunk_least = leb-true 64 h.chunk i.1;
-      chunk_most = leb-true h.chunk 65536 g.1;
-      chunk_whole = eqb-true (h.chunk % 8) 0 f.1;
+      chunk_least = leb-true LEAST_CHUNK h.chunk i.1;
+      chunk_most = leb-true h.chunk MOST_CHUNK g.1;
+      chunk_whole = eqb-true (h.chunk % CHUNK_UNIT) 0 f.1;
       some_slot = leb-true 1 h.shmem d.1;
-      slots = leb-true h.shmem 65536 c.1;
-      slot_bytes = leb-true (h.shmem * h.chunk) 268435456 b.1;
+      slots = leb-true h.shmem MEMORY_SLOTS c.1;
+      slot_bytes = leb-true (h.shmem * h.chunk) MEMORY_BYTES b.1;
       spill = eqb-true h.spill 0 a.1;
     }
 

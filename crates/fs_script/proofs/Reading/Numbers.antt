@@ -82,9 +82,6 @@ text_is_number n lt =
     let numeral : is_numeral (decimal n) ≡ true = rw (digits, some, is_plain n lt) refl in
     number_is (decimal n) numeral (omega (arith, value)) ∙ ap Some value
 
-pub text_gives : (w : List ℕ) (n : ℕ) → IsNumber w n → number_of w ≡ Some n
-text_gives w n h = ap number_of h.text ∙ text_is_number n h.below
-
 pub record IsField (name w : List ℕ) (n : ℕ) : Type 0 where
   pub below : n < 2 ^ 64
   pub text : w ≡ name ++ decimal n

@@ -1,6 +1,13 @@
 //! The text of a legal report says what the report is.
 
-ghost use Rattle.fs_script.specs.Laws.{LegalReportsArePrintable, OneLegalReport, TextEnds, TextIsWhole};
+ghost use Rattle.fs_script.specs.Laws.{LegalReportsArePrintable, OneLegalReport, OnePrintableReport, PrintableTextIsWhole, TextEnds, TextIsWhole};
+
+/// Two reports with one text are one report, and no text goes on after another, of whatever jobs the
+/// reports are: that each is printable is all that this needs.
+pub fn one_printable_report()
+    ensures one { OnePrintableReport }
+    ensures alone { PrintableTextIsWhole }
+{}
 
 /// Each number of a legal report fits the type that holds it, each byte is one, and each path is a
 /// path.

@@ -1,8 +1,9 @@
 //! A host and a device that refuse all calls.
 
-ghost use Rattle.std.specs.Prelude.{◌≡◌, [], None, Some, IsErr, OnErr};
+ghost use Rattle.std.specs.Prelude.{◌≡◌, [], None, Some, length, IsErr, OnErr};
 ghost use Rattle.top_call.specs.Faults.{HasRisen};
 ghost use Rattle.top_call.specs.Host.{RefusedTo};
+ghost use Rattle.top_call.specs.SpillDev.{LeftOpen};
 ghost use Rattle.top_call.specs.declared.outside.refused.RefusedCall.TheVariants.{Device, Source, Sink};
 
 use super::host::{Host, HostFailed};
@@ -38,12 +39,22 @@ impl SpillDev for NoDev {
 
     ghost cell_count = { λ _. tt };
 
-    fn write_at(&mut self, _at: u64, _b: &[u8]) -> Result<(), DevFailed> {
+    fn write_at(&mut self, _at: u64, _b: &[u8]) -> Result<(), DevFailed>
+        ensures fails { IsErr result }
+        ensures open { LeftOpen _at (length _b.now) None None }
+        ensures rest { self.new ≡ record self.old { faults = self.new.faults } }
+        ensures risen { HasRisen self.old.faults self.new.faults }
+    {
         self.faults = self.faults.saturating_add(1);
         Err(DevFailed)
     }
 
-    fn read_at(&mut self, _at: u64, _out: &mut [u8]) -> Result<(), DevFailed> {
+    fn read_at(&mut self, _at: u64, _out: &mut [u8]) -> Result<(), DevFailed>
+        ensures fails { IsErr result }
+        ensures length { length _out.new ≡ length _out.old }
+        ensures rest { self.new ≡ record self.old { faults = self.new.faults } }
+        ensures risen { HasRisen self.old.faults self.new.faults }
+    {
         self.faults = self.faults.saturating_add(1);
         Err(DevFailed)
     }
