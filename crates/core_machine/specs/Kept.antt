@@ -60,8 +60,8 @@ abbrev pub board_now : OwnedPath → Noted
 board_now x = record { version = length x.journal.items; exists = is_some x.file }
 
 -- the path, once they were told
-abbrev pub told : PathState → PathState
-told x = record { owned = record x.owned { board = board_now x.owned }; clients = x.clients }
+abbrev pub with_board : PathState → PathState
+with_board x = record { owned = record x.owned { board = board_now x.owned }; clients = x.clients }
 
 -- nothing was committed to the path, and of so many clients none did anything
 pub record IsFreshPath (count : ℕ) (x : PathState) : Type 0 where

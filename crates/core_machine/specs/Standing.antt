@@ -27,7 +27,7 @@ pub record StandsForOwner (s : Job) (A : Answering) (now : ℕ) (x : OwnedPath) 
   pub answered : AllByRecursion (λ m. IsSome (A m)) x.journal.items
   pub written : IfSome x.file (λ xs. AreExtents s xs.items)
   pub file : file_of s x.file ≡ state s A x.journal.items (length x.journal.items)
-  pub told : x.board.version ≡ count_by (λ m. nat_lt (phase s m) now) x.journal.items
+  pub board : x.board.version ≡ count_by (λ m. nat_lt (phase s m) now) x.journal.items
   pub known : known_from x.board ≡ known_of (state s A x.journal.items x.board.version)
 
 -- client r's part of path p: whether it is open, what is pending, and the greatest version seen with what is known of the file

@@ -6,7 +6,7 @@ ghost use Rattle.fs_script.specs.Grammar.{IsJob};
 ghost use Rattle.fs_script.specs.Report.{file_state_of, journal_of};
 ghost use Rattle.core_machine.specs.Moment.{IsFirst, ready, events_left, journal, file_now};
 ghost use Rattle.core_machine.specs.Step.{step};
-ghost use Rattle.core_machine.specs.Kept.{IsFreshPath, told};
+ghost use Rattle.core_machine.specs.Kept.{IsFreshPath, with_board};
 ghost use Rattle.core_machine.specs.Follows.{FollowsFor, IsSoundFor};
 ghost use Rattle.core_machine.specs.Turns.{going};
 ghost use Rattle.core_machine.specs.MomentKept.{after_line, journals_of, moment_of};
@@ -133,7 +133,7 @@ fn answer_line(
 
 // Tells all clients the version of a path.
 fn tell(state: &mut PathState)
-    ensures { state.new ≡ told state.old }
+    ensures { state.new ≡ with_board state.old }
 {
     state.owned.board = Noted {
         version: state.owned.version(),
@@ -143,7 +143,7 @@ fn tell(state: &mut PathState)
 
 // Tells all clients the version of each path.
 fn tell_all(states: &mut [PathState])
-    ensures { states.new ≡ map told states.old }
+    ensures { states.new ≡ map with_board states.old }
 {
     for state in states {
         tell(state);

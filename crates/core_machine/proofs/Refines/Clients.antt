@@ -16,7 +16,7 @@ use Rattle.core_machine.specs.Kept.{AreSound, known_from}
 use Rattle.core_machine.specs.Follows.{Follows, kept_event, Knows}
 use Rattle.core_machine.specs.Standing.{StandsForOwner, StandsForClient, end_of}
 use Rattle.core_machine.proofs.Refines.Answers.{AgreeBefore-elsewhere, IsOpenFrom, IsOpenFrom-answered, pending-until, seen-until, is_open-until}
-use Rattle.core_machine.proofs.Refines.Owners.{IsAnswer, grown, length-grown, state-grown, told-within}
+use Rattle.core_machine.proofs.Refines.Owners.{IsNewAnswer, grown, length-grown, state-grown, told-within}
 
 -- the owner's journal after an event is the one before, perhaps with the line at its end
 pub record Grows (n : ℕ) (commits : Bool) (x y : OwnedPath) : Type 0 where
@@ -24,7 +24,7 @@ pub record Grows (n : ℕ) (commits : Bool) (x y : OwnedPath) : Type 0 where
 
 -- ---- a client whose line it isn't, on this path
 
-pub StandsForClient-other : (s : Job) (A B : Answering) (now n : ℕ) (o : OpLine) (a : Answer) (commits : Bool) (r : ℕ) (p : List ℕ) (x y : OwnedPath) (k : ClientPath) → IsAnswer s A now n o a B
+pub StandsForClient-other : (s : Job) (A B : Answering) (now n : ℕ) (o : OpLine) (a : Answer) (commits : Bool) (r : ℕ) (p : List ℕ) (x y : OwnedPath) (k : ClientPath) → IsNewAnswer s A now n o a B
     → own_at s r p n ≡ None → Grows n commits x y → StandsForOwner s A now x → StandsForClient s A r p x k → StandsForClient s B r p y k
 StandsForClient-other s A B now n o a commits r p x y k h none grows owned stands =
     let agree = AgreeBefore-elsewhere s r p A B n a (end_of s) h.adds none in
@@ -71,12 +71,12 @@ is_open-own s A B r p n o a adds own =
     ∙ ap (λ x. open_after x (B n) (is_open s B r p n)) own.own ∙ ap (λ x. open_after (Some o.op) x (is_open s B r p n)) adds.added
     ∙ ap (λ b. opens o.op a || b) (sym (is_open-agree s r p A B n (AgreeBefore-next s r p A B n n a adds (omega arith))) ∙ sym (is_open-until s r p A n (end_of s) (omega arith) own.from))
 
-pub StandsForClient-own : (s : Job) (A B : Answering) (now n : ℕ) (o : OpLine) (a : Answer) (r : ℕ) (p : List ℕ) (x y : OwnedPath) (k l : ClientPath) → IsAnswer s A now n o a B → IsOwn s A r p n o
+pub StandsForClient-own : (s : Job) (A B : Answering) (now n : ℕ) (o : OpLine) (a : Answer) (r : ℕ) (p : List ℕ) (x y : OwnedPath) (k l : ClientPath) → IsNewAnswer s A now n o a B → IsOwn s A r p n o
     → Follows s n o.op x k y l a → AreSound s y l → StandsForOwner s A now x → StandsForOwner s B now y → StandsForClient s A r p x k → StandsForClient s B r p y l
 StandsForClient-own s A B now n o a r p x y k l h own follows sound owned owns stands =
     let J = x.journal.items in
     let commits = (kept_event s x k o.op).commits in
-    let told : x.board.version ≤ length J = subst (λ v. v ≤ length J) (sym owned.told) (told-within s J now) in
+    let told : x.board.version ≤ length J = subst (λ v. v ≤ length J) (sym owned.board) (told-within s J now) in
     let at = λ (v : ℕ). known_of (state s B y.journal.items v) in
     let at_old : (v : ℕ) → v ≤ length J → known_of (state s A J v) ≡ at v = λ v le. ap known_of (state-grown s A B J n v a commits h.adds h.next owned.answered le ∙ ap (λ (j : List ℕ). state s B j v) (sym follows.journal)) in
     let board : known_from y.board ≡ at y.board.version = owns.known in

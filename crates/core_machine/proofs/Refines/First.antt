@@ -5,6 +5,7 @@ use Rattle.std.specs.List.{AllByRecursion}
 use Rattle.std.proofs.lemmas.Bool.{le-ltb}
 use Rattle.std.proofs.lemmas.List.{length-map, length-replicate, get_or-replicate}
 use Rattle.std.proofs.lemmas.List.Elements.{recursion_from_All}
+use Rattle.std.proofs.lemmas.Slice.Zip.{firsts-zip}
 use Rattle.std.proofs.lemmas.Option.{slice_get_within, get_or_from_slice_get}
 use Rattle.fs_types.specs.AnswerList.{Given, answer_at}
 use Rattle.fs_script.specs.Job.{Job}
@@ -30,7 +31,7 @@ owner-fresh s now x fresh = record {
   answered = rw fresh.journal tt;
   written = rw fresh.file tt;
   file = rw (fresh.journal, fresh.file) refl;
-  told = rw (fresh.journal, fresh.board) refl;
+  board = rw (fresh.journal, fresh.board) refl;
   known = rw (fresh.journal, fresh.board) refl;
 }
 
@@ -69,11 +70,6 @@ Holds-first s paths states answers turns job named sized fresh empty room same p
       (path-fresh s turns.phase p x (subst (IsFreshPath s.shape.clients) (get_or_from_slice_get states i x x there) (fresh i x (slice_get_within states i x there))));
 }
 
-pub zip-keys : (ps js : List (List ℕ)) → length js ≡ length ps → map (λ j. j.0) (zip ps js) ≡ ps
-zip-keys [] js same = refl
-zip-keys (p ∷ ps) [] same = absurd (omega arith)
-zip-keys (p ∷ ps) (j ∷ js) same = ap (λ (qs : List (List ℕ)). p ∷ qs) (zip-keys ps js (omega arith))
-
 fresh-journals : (clients : ℕ) (ps : List (List ℕ)) (xs : List PathState) → AllByRecursion (IsFreshPath clients) xs → AllByRecursion (λ j. j.1 ≡ []) (zip ps (map journal_kept xs))
 fresh-journals clients [] xs fresh = tt
 fresh-journals clients (p ∷ ps) [] fresh = tt
@@ -90,7 +86,7 @@ IsFirst-first s paths states answers turns named sized fresh empty places = reco
   job = refl;
   clients = ap (map client_at) places ∙ map-replicate s.shape.clients;
   answers = empty;
-  paths = rw (zip-keys paths (map journal_kept states) (length-map states journal_kept ∙ sized)) named;
+  paths = rw (firsts-zip paths (map journal_kept states) (length-map states journal_kept ∙ sized)) named;
   journals = fresh-journals s.shape.clients paths states (recursion_from_All (IsFreshPath s.shape.clients) states fresh);
   spent = refl;
 }

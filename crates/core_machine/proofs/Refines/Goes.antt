@@ -1,9 +1,9 @@
 -- A client that goes: it is one of the job's, and its next line is of the run's phase. Its step brings the run nearer to its end.
-use Rattle.std.proofs.Common.{◌≡◌, ℕ, zero, suc, ◌+◌, ◌-◌, ◌≤◌, ◌<◌, Bool, true, false, List, [], ◌∷◌, length, Some, Contains, slice_index, slice_get, sum_by, refl, sym, ap, ◌∙◌, subst, inl, inr, arith}
+use Rattle.std.proofs.Common.{◌≡◌, ℕ, zero, suc, ◌+◌, ◌-◌, ◌≤◌, ◌<◌, Bool, true, false, List, length, Some, Contains, slice_index, slice_get, sum_by, refl, sym, ap, ◌∙◌, subst, inl, inr, arith}
 use Rattle.std.specs.List.{range_with_len}
 use Rattle.std.proofs.lemmas.Bool.{cases_eq}
 use Rattle.std.proofs.lemmas.List.{get_or-set_same, get_or-set_other}
-use Rattle.std.proofs.lemmas.List.Sums.{sum_by-cons}
+use Rattle.std.proofs.lemmas.List.Sums.{sum_by-cons, sum_by-le-sum_by}
 use Rattle.std.proofs.lemmas.Option.{same_Some, slice_get_within}
 use Rattle.fs_types.specs.AnswerList.{Given}
 use Rattle.fs_script.specs.Job.{Job, phase, program}
@@ -46,17 +46,13 @@ goes-some s paths states answers turns r held has =
 
 -- ---- the events that are left
 
-sum-le : (f g : ℕ → ℕ) (xs : List ℕ) → ((q : ℕ) → g q ≤ f q) → sum_by g xs ≤ sum_by f xs
-sum-le f g [] less = omega arith
-sum-le f g (x ∷ xs) less = (let rest = sum-le f g xs less in let here = less x in omega (arith, sum_by-cons f x xs, sum_by-cons g x xs))
-
 sum-less : (f g : ℕ → ℕ) (a len r : ℕ) → a ≤ r → r < a + len → ((q : ℕ) → g q ≤ f q) → g r < f r → sum_by g (range_with_len a len) < sum_by f (range_with_len a len)
 sum-less f g a zero r from to less here = absurd (omega arith)
 sum-less f g a (suc len) r from to less here =
     let xs = range_with_len (a + 1) len in
     let first = less a in
     elim (cases_eq a r) [
-      | inl is ↦ (let rest = sum-le f g xs less in let at = subst (λ q. g q < f q) (sym is) here in omega (arith, sum_by-cons f a xs, sum_by-cons g a xs))
+      | inl is ↦ (let rest = sum_by-le-sum_by g f xs less in let at = subst (λ q. g q < f q) (sym is) here in omega (arith, sum_by-cons f a xs, sum_by-cons g a xs))
       | inr other ↦ (let rest = sum-less f g (a + 1) len r (omega arith) (omega arith) less here in omega (arith, sum_by-cons f a xs, sum_by-cons g a xs))
     ]
 

@@ -5,7 +5,9 @@ use Rattle.std.specs.List.{slice_get, AllByRecursion}
 use Rattle.std.specs.Str.{bytes_eq}
 use Rattle.std.specs.Ordering.{nat_cmp, is_lt}
 use Rattle.std.specs.Cmp.Lexicographic.{slice_cmp}
-use Rattle.std.proofs.lemmas.Option.{same_Some, slice_get-get_or}
+use Rattle.std.specs.Option.{option_map}
+use Rattle.std.proofs.lemmas.List.{map-set, set-get_or}
+use Rattle.std.proofs.lemmas.Option.{same_Some, slice_get-get_or, slice_get-map, get_or_from_slice_get}
 use Rattle.fs_script.specs.Report.{AreRising}
 use Rattle.core_machine.specs.declared.path_state.PathState.{PathState}
 use Rattle.core_machine.specs.Moment.{with_entry}
@@ -29,19 +31,10 @@ module _ {X : Type 0} where
   slice_get-set_other (x ∷ xs) (suc i) (suc j) y differ = slice_get-set_other xs i j y (λ e. differ (ap suc e))
 
   pub set-same : (xs : List X) (i : ℕ) (x : X) → slice_get xs i ≡ Some x → set xs i x ≡ xs
-  set-same [] i x is = refl
-  set-same (y ∷ ys) zero x is = ap (λ z. z ∷ ys) (sym (same_Some y x is))
-  set-same (y ∷ ys) (suc i) x is = ap (λ zs. y ∷ zs) (set-same ys i x is)
+  set-same xs i x is = ap (set xs i) (sym (get_or_from_slice_get xs i x x is)) ∙ set-get_or xs i x
 
-  pub map-set : {Y : Type 0} (f : X → Y) (xs : List X) (i : ℕ) (x : X) → map f (set xs i x) ≡ set (map f xs) i (f x)
-  map-set f [] i x = refl
-  map-set f (y ∷ ys) zero x = refl
-  map-set f (y ∷ ys) (suc i) x = ap (λ zs. f y ∷ zs) (map-set f ys i x)
-
-  pub slice_get-map : {Y : Type 0} (f : X → Y) (xs : List X) (i : ℕ) (x : X) → slice_get xs i ≡ Some x → slice_get (map f xs) i ≡ Some (f x)
-  slice_get-map f [] i x is = absurd cc
-  slice_get-map f (y ∷ ys) zero x is = ap (λ z. Some (f z)) (same_Some y x is)
-  slice_get-map f (y ∷ ys) (suc i) x is = slice_get-map f ys i x is
+  pub slice_get-map_some : {Y : Type 0} (f : X → Y) (xs : List X) (i : ℕ) (x : X) → slice_get xs i ≡ Some x → slice_get (map f xs) i ≡ Some (f x)
+  slice_get-map_some f xs i x is = slice_get-map f xs i ∙ ap (option_map f) is
 
 -- what was read at a place stands there
 pub slice_get-read : {X : Type 0} (xs : List X) (i : ℕ) (x : X) → i < length xs → x ≡ get_or xs i x → slice_get xs i ≡ Some x
@@ -77,7 +70,7 @@ pub journals_of-set : (paths : List (List ℕ)) (states : List PathState) (p : L
     → journal_kept y ≡ grown (journal_kept x) n commits → journals_of paths (set states i y) ≡ cond commits (with_entry p n (journals_of paths states)) (journals_of paths states)
 journals_of-set paths states p n i x y true rising at is grows =
     ap (zip paths) (map-set journal_kept states i y) ∙ ap (λ (j : List ℕ). zip paths (set (map journal_kept states) i j)) grows
-    ∙ sym (with_entry-zip p n paths (map journal_kept states) i (journal_kept x) rising at (slice_get-map journal_kept states i x is))
+    ∙ sym (with_entry-zip p n paths (map journal_kept states) i (journal_kept x) rising at (slice_get-map_some journal_kept states i x is))
 journals_of-set paths states p n i x y false rising at is grows =
     ap (zip paths) (map-set journal_kept states i y) ∙ ap (λ (j : List ℕ). zip paths (set (map journal_kept states) i j)) grows
-    ∙ ap (zip paths) (set-same (map journal_kept states) i (journal_kept x) (slice_get-map journal_kept states i x is))
+    ∙ ap (zip paths) (set-same (map journal_kept states) i (journal_kept x) (slice_get-map_some journal_kept states i x is))

@@ -15,7 +15,8 @@ use Rattle.core_machine.specs.Follows.{kept_event}
 use Rattle.core_machine.specs.Turns.{Places}
 use Rattle.core_machine.specs.MomentKept.{client_at, journals_of, moment_of, after_line}
 use Rattle.core_machine.proofs.Paths.{journal_of-zip}
-use Rattle.core_machine.proofs.Refines.Journals.{map-set, slice_get-map, journal_kept, journals_of-set}
+use Rattle.std.proofs.lemmas.List.{map-set}
+use Rattle.core_machine.proofs.Refines.Journals.{slice_get-map_some, journal_kept, journals_of-set}
 use Rattle.core_machine.proofs.Refines.Now.{kept_now-is}
 use Rattle.core_machine.proofs.Refines.Steps.{Answered, given, is_own, stood, client_stood}
 
@@ -44,7 +45,7 @@ module _ {s : Job} {paths : List (List ℕ)} {states : List PathState} {answers 
   -- the event sees what is kept
   event-is : event_at before t.number t.line ≡ kept
   event-is =
-      let J : journal_of (journals_of paths states) t.line.path ≡ t.was.owned.journal.items = journal_of-zip paths (map journal_kept states) t.place t.line.path (journal_kept t.was) t.held.named.rising t.at (slice_get-map journal_kept states t.place t.was t.there) in
+      let J : journal_of (journals_of paths states) t.line.path ≡ t.was.owned.journal.items = journal_of-zip paths (map journal_kept states) t.place t.line.path (journal_kept t.was) t.held.named.rising t.at (slice_get-map_some journal_kept states t.place t.was t.there) in
       ap (λ (j : List ℕ). event_of s.shape.chunk (path_now s (given t) j t.number t.line) t.line.op) J
       ∙ ap (λ (w : PathNow). event_of s.shape.chunk w t.line.op) (sym (kept_now-is s (given t) turns.phase t.number t.line t.was.owned t.client t.now (is_own t) (stood t).owned (client_stood t)))
 

@@ -31,7 +31,7 @@ front-kept : (s : Job) (A : Answering) (now n : ℕ) (o : OpLine) (x : OwnedPath
 front-kept s A now n o x k is own owned client =
     let lt = own.within in
     let saw : k.noted.version ≡ seen s A o.rank o.path n = client.seen ∙ seen-until s o.rank o.path A n (end_of s) (omega arith) own.from in
-    let told : x.board.version ≡ of_earlier_phases s n x.journal.items = owned.told ∙ ap (λ j. count_by (λ m. nat_lt (phase s m) j) x.journal.items) (sym is) in
+    let told : x.board.version ≡ of_earlier_phases s n x.journal.items = owned.board ∙ ap (λ j. count_by (λ m. nat_lt (phase s m) j) x.journal.items) (sym is) in
     later-version k.noted x.board ∙ ap (λ v. max v x.board.version) saw ∙ ap (max (seen s A o.rank o.path n)) told
 
 same_now : (v w : PathNow) → v.file ≡ w.file → v.version ≡ w.version → v.pending ≡ w.pending → v.is_open ≡ w.is_open → v.front ≡ w.front → v.at_front ≡ w.at_front → v ≡ w

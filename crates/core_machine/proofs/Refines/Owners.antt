@@ -22,7 +22,7 @@ use Rattle.core_machine.specs.Standing.{StandsForOwner}
 use Rattle.core_machine.proofs.Refines.Answers.{state-answered}
 
 -- line n, the operation o of the run's phase, comes next and is answered a
-pub record IsAnswer (s : Job) (A : Answering) (now n : ℕ) (o : OpLine) (a : Answer) (B : Answering) : Type 0 where
+pub record IsNewAnswer (s : Job) (A : Answering) (now n : ℕ) (o : OpLine) (a : Answer) (B : Answering) : Type 0 where
   pub line : op_at s n ≡ Some o
   pub adds : AddsAnswer A n a B
   pub next : ComesNext s A n
@@ -56,7 +56,7 @@ state-grown s A B J n v a true adds next all within = state-answered s A B J n v
 state-grown s A B J n v a false adds next all within = state-answered s A B J n v a adds next all
 
 -- the file that the line leaves
-state-now : (s : Job) (A B : Answering) (now n : ℕ) (o : OpLine) (a : Answer) (J : List ℕ) (commits : Bool) (f : File ℕ) → IsAnswer s A now n o a B → AllByRecursion (λ m. IsSome (A m)) J
+state-now : (s : Job) (A B : Answering) (now n : ℕ) (o : OpLine) (a : Answer) (J : List ℕ) (commits : Bool) (f : File ℕ) → IsNewAnswer s A now n o a B → AllByRecursion (λ m. IsSome (A m)) J
     → f ≡ state s A J (length J) → cond commits (effect_of s (bytes_of s) o.op (pending s A o.rank o.path n) f) f ≡ state s B (grown J n commits) (length (grown J n commits))
 state-now s A B now n o a J false f h all here = here ∙ state-answered s A B J n (length J) a h.adds h.next all
 state-now s A B now n o a J true f h all here =
@@ -69,12 +69,12 @@ state-now s A B now n o a J true f h all here =
 
 -- ---- the part of another path
 
-pub StandsForOwner-other : (s : Job) (A B : Answering) (now n : ℕ) (o : OpLine) (a : Answer) (x : OwnedPath) → IsAnswer s A now n o a B → StandsForOwner s A now x → StandsForOwner s B now x
+pub StandsForOwner-other : (s : Job) (A B : Answering) (now n : ℕ) (o : OpLine) (a : Answer) (x : OwnedPath) → IsNewAnswer s A now n o a B → StandsForOwner s A now x → StandsForOwner s B now x
 StandsForOwner-other s A B now n o a x h stands = record {
   answered = all-answered A B n a x.journal.items h.adds stands.answered;
   written = stands.written;
   file = stands.file ∙ state-answered s A B x.journal.items n (length x.journal.items) a h.adds h.next stands.answered;
-  told = stands.told;
+  board = stands.board;
   known = stands.known ∙ ap known_of (state-answered s A B x.journal.items n x.board.version a h.adds h.next stands.answered);
 }
 
@@ -90,11 +90,11 @@ told-grown s J n now true is =
 pub told-within : (s : Job) (J : List ℕ) (now : ℕ) → count_by (λ m. nat_lt (phase s m) now) J ≤ length J
 told-within s J now = count_by-le-length (λ m. nat_lt (phase s m) now) J
 
-answered-grown : (s : Job) (A B : Answering) (now n : ℕ) (o : OpLine) (a : Answer) (J : List ℕ) (commits : Bool) → IsAnswer s A now n o a B → AllByRecursion (λ m. IsSome (A m)) J → AllByRecursion (λ m. IsSome (B m)) (grown J n commits)
+answered-grown : (s : Job) (A B : Answering) (now n : ℕ) (o : OpLine) (a : Answer) (J : List ℕ) (commits : Bool) → IsNewAnswer s A now n o a B → AllByRecursion (λ m. IsSome (A m)) J → AllByRecursion (λ m. IsSome (B m)) (grown J n commits)
 answered-grown s A B now n o a J true h all = AllByRecursion-push (λ m. IsSome (B m)) J n (all-answered A B n a J h.adds all) (ap is_some h.adds.added)
 answered-grown s A B now n o a J false h all = all-answered A B n a J h.adds all
 
-pub StandsForOwner-own : (s : Job) (A B : Answering) (now n : ℕ) (o : OpLine) (a : Answer) (x y : OwnedPath) (k l : ClientPath) → IsAnswer s A now n o a B → pending_lines k ≡ pending s A o.rank o.path n
+pub StandsForOwner-own : (s : Job) (A B : Answering) (now n : ℕ) (o : OpLine) (a : Answer) (x y : OwnedPath) (k l : ClientPath) → IsNewAnswer s A now n o a B → pending_lines k ≡ pending s A o.rank o.path n
     → Follows s n o.op x k y l a → AreSound s y l → StandsForOwner s A now x → StandsForOwner s B now y
 StandsForOwner-own s A B now n o a x y k l h pends follows sound stands =
     let J = x.journal.items in
@@ -108,8 +108,8 @@ StandsForOwner-own s A B now n o a x y k l h pends follows sound stands =
           ∙ ap (λ (q : List ℕ). cond commits (effect_of s (bytes_of s) o.op q (file_of s x.file)) (file_of s x.file)) pends
           ∙ state-now s A B now n o a J commits (file_of s x.file) h stands.answered stands.file
           ∙ ap (λ (j : List ℕ). state s B j (length j)) (sym K);
-      told = board ∙ stands.told ∙ sym (ap (count_by (λ m. nat_lt (phase s m) now)) K ∙ told-grown s J n now commits h.phase);
+      board = board ∙ stands.board ∙ sym (ap (count_by (λ m. nat_lt (phase s m) now)) K ∙ told-grown s J n now commits h.phase);
       known = ap known_from follows.board ∙ stands.known
-          ∙ ap known_of (state-grown s A B J n x.board.version a commits h.adds h.next stands.answered (subst (λ v. v ≤ length J) (sym stands.told) (told-within s J now))
+          ∙ ap known_of (state-grown s A B J n x.board.version a commits h.adds h.next stands.answered (subst (λ v. v ≤ length J) (sym stands.board) (told-within s J now))
           ∙ ap (λ (j : List ℕ). state s B j x.board.version) (sym K) ∙ ap (state s B y.journal.items) (sym board));
     }

@@ -13,14 +13,14 @@ use Rattle.core_machine.specs.Turns.{Places}
 use Rattle.core_machine.specs.MomentKept.{journals_of, moment_of}
 use Rattle.core_machine.specs.Standing.{Holds, Stands}
 use Rattle.core_machine.proofs.Paths.{journal_of-zip, journal_of-absent}
-use Rattle.core_machine.proofs.Refines.Journals.{slice_get-map, slice_get-read, journal_kept}
+use Rattle.core_machine.proofs.Refines.Journals.{slice_get-map_some, slice_get-read, journal_kept}
 
 -- the journal of a path that has a place, whose state was read there
 pub journal-read : (paths : List (List ℕ)) (states : List PathState) (i : ℕ) (p : List ℕ) (x : PathState) → AreRising paths → slice_get paths i ≡ Some p → length states ≡ length paths → x ≡ get_or states i x
     → journal_kept x ≡ journal_of (journals_of paths states) p
 journal-read paths states i p x rising at sized read =
     let inside = slice_get_within paths i p at in
-    sym (journal_of-zip paths (map journal_kept states) i p (journal_kept x) rising at (slice_get-map journal_kept states i x (slice_get-read states i x (omega arith) read)))
+    sym (journal_of-zip paths (map journal_kept states) i p (journal_kept x) rising at (slice_get-map_some journal_kept states i x (slice_get-read states i x (omega arith) read)))
 
 pub journal-absent : (paths : List (List ℕ)) (states : List PathState) (p : List ℕ) → (Contains paths p → ⊥) → [] ≡ journal_of (journals_of paths states) p
 journal-absent paths states p absent = sym (journal_of-absent paths (map journal_kept states) p absent)

@@ -25,7 +25,7 @@ use Rattle.core_machine.specs.Standing.{Holds, Stands, StandsForOwner, StandsFor
 use Rattle.core_machine.proofs.Paths.{place_unique, other_bytes}
 use Rattle.core_machine.proofs.Places.{StandsNext, comes_next, upto-own, upto-other}
 use Rattle.core_machine.proofs.Refines.Answers.{IsOpenFrom-next, pending-until}
-use Rattle.core_machine.proofs.Refines.Owners.{IsAnswer, StandsForOwner-own, StandsForOwner-other}
+use Rattle.core_machine.proofs.Refines.Owners.{IsNewAnswer, StandsForOwner-own, StandsForOwner-other}
 use Rattle.core_machine.proofs.Refines.Clients.{Grows, IsOwn, StandsForClient-own, StandsForClient-other}
 use Rattle.core_machine.proofs.Refines.Journals.{slice_get-set_same, slice_get-set_other}
 
@@ -92,7 +92,7 @@ module _ {s : Job} {paths : List (List ℕ)} {states : List PathState} {answers 
       let op = program-op s r (slice_index turns.places r) t.number t.next in
       ap (λ l. l.rank) (same_Some t.line op.0 (sym t.is ∙ op.1)) ∙ op.2
 
-  is_answer : IsAnswer s given turns.phase t.number t.line t.answer given_then
+  is_answer : IsNewAnswer s given turns.phase t.number t.line t.answer given_then
   is_answer = record { line = t.is; adds = AddsAnswer-put answers.list t.number t.answer; next = comes_next stands_next; phase = t.now }
 
   pub is_own : IsOwn s given t.line.rank t.line.path t.number t.line

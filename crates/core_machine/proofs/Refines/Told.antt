@@ -5,6 +5,7 @@ use Rattle.std.specs.List.{slice_get, AllByRecursion}
 use Rattle.std.proofs.lemmas.Bool.{lt-ltb}
 use Rattle.std.proofs.lemmas.List.{length-map}
 use Rattle.std.proofs.lemmas.List.Sums.{sum_by-cons}
+use Rattle.std.proofs.lemmas.Simd.{map-map}
 use Rattle.std.proofs.lemmas.Option.{same_Some}
 use Rattle.fs_types.specs.AnswerList.{Given, answer_at}
 use Rattle.fs_script.specs.Job.{Job, phase}
@@ -13,7 +14,7 @@ use Rattle.core_machine.specs.declared.extent.Extent.{Extent}
 use Rattle.core_machine.specs.declared.path_state.OwnedPath.{OwnedPath}
 use Rattle.core_machine.specs.declared.path_state.PathState.{PathState}
 use Rattle.core_machine.specs.Event.{known_of}
-use Rattle.core_machine.specs.Kept.{file_of, board_now, told}
+use Rattle.core_machine.specs.Kept.{file_of, board_now, with_board}
 use Rattle.core_machine.specs.Turns.{Places}
 use Rattle.core_machine.specs.LegalSoFar.{IsAnsweredUpTo}
 use Rattle.core_machine.specs.MomentKept.{client_at, moment_of}
@@ -38,7 +39,7 @@ StandsForOwner-told s A now next x past stands = record {
   answered = stands.answered;
   written = stands.written;
   file = stands.file;
-  told = all-earlier s next x.journal.items (earlier x.journal.items stands.answered);
+  board = all-earlier s next x.journal.items (earlier x.journal.items stands.answered);
   known = known-board s x.file ∙ ap known_of stands.file;
 }
   where
@@ -48,12 +49,12 @@ StandsForOwner-told s A now next x past stands = record {
 
 -- all that is kept, once all clients were told and the next phase has begun
 pub Holds-told : (s : Job) (paths : List (List ℕ)) (states : List PathState) (answers : Given) (turns then : Places) → then.job ≡ turns.job → then.places ≡ turns.places → turns.phase < then.phase
-    → Holds s paths states answers turns → Holds s paths (map told states) answers then
+    → Holds s paths states answers turns → Holds s paths (map with_board states) answers then
 Holds-told s paths states answers turns then job places later held = record {
   job = held.job;
   same = job ∙ held.same;
   named = held.named;
-  kept = length-map states told ∙ held.kept;
+  kept = length-map states with_board ∙ held.kept;
   clients = ap length places ∙ held.clients;
   room = held.room;
   upto = λ r within. subst (λ ps. IsAnsweredUpTo s (answer_at answers.list) r (slice_index ps r)) (sym places) (held.upto r within);
@@ -69,29 +70,25 @@ Holds-told s paths states answers turns then job places later held = record {
       });
 }
   where
-    told-at : (xs : List PathState) (i : ℕ) (x : PathState) → slice_get (map told xs) i ≡ Some x → (y : PathState) × (slice_get xs i ≡ Some y) × (told y ≡ x)
+    told-at : (xs : List PathState) (i : ℕ) (x : PathState) → slice_get (map with_board xs) i ≡ Some x → (y : PathState) × (slice_get xs i ≡ Some y) × (with_board y ≡ x)
     told-at [] i x is = absurd cc
-    told-at (y ∷ ys) zero x is = (y, refl, same_Some (told y) x is)
+    told-at (y ∷ ys) zero x is = (y, refl, same_Some (with_board y) x is)
     told-at (y ∷ ys) (suc i) x is = told-at ys i x is
 
 -- one path more is told of
-pub tell-next : (xs : List PathState) (i : ℕ) (x : PathState) → i < length xs → x ≡ get_or (map told (take i xs) ++ drop i xs) i x
-    → set (map told (take i xs) ++ drop i xs) i (told x) ≡ map told (take (suc i) xs) ++ drop (suc i) xs
+pub tell-next : (xs : List PathState) (i : ℕ) (x : PathState) → i < length xs → x ≡ get_or (map with_board (take i xs) ++ drop i xs) i x
+    → set (map with_board (take i xs) ++ drop i xs) i (with_board x) ≡ map with_board (take (suc i) xs) ++ drop (suc i) xs
 tell-next [] i x lt is = absurd (omega arith)
-tell-next (y ∷ ys) zero x lt is = ap (λ z. told z ∷ ys) is
-tell-next (y ∷ ys) (suc i) x lt is = ap (λ zs. told y ∷ zs) (tell-next ys i x (omega arith) is)
-
-journals-told : (xs : List PathState) → map journal_kept (map told xs) ≡ map journal_kept xs
-journals-told [] = refl
-journals-told (x ∷ xs) = ap (λ js. journal_kept x ∷ js) (journals-told xs)
+tell-next (y ∷ ys) zero x lt is = ap (λ z. with_board z ∷ ys) is
+tell-next (y ∷ ys) (suc i) x lt is = ap (λ zs. with_board y ∷ zs) (tell-next ys i x (omega arith) is)
 
 -- the moment stays
 pub moment-told : (s : Job) (paths : List (List ℕ)) (states : List PathState) (answers : Given) (turns then : Places) (spent : Bool) → then.places ≡ turns.places
-    → moment_of s paths (map told states) answers then spent ≡ moment_of s paths states answers turns spent
+    → moment_of s paths (map with_board states) answers then spent ≡ moment_of s paths states answers turns spent
 moment-told s paths states answers turns then spent places i = record {
   job = s;
   clients = map client_at (places i);
   answers = answers.list;
-  journals = zip paths (journals-told states i);
+  journals = zip paths (map-map journal_kept with_board states i);
   spent = spent;
 }

@@ -1,7 +1,7 @@
 use Rattle.std.proofs.Common.{◌≡◌, length, map, sym, ap, subst, arith, ◌∙◌}
 use Rattle.std.specs.Vec.{with_items}
 use Rattle.std.proofs.lemmas.List.{with_items_is, length-map}
-use Rattle.core_machine.specs.Kept.{told}
+use Rattle.core_machine.specs.Kept.{with_board}
 use Rattle.core_machine.specs.MomentKept.{moment_of, after_line}
 use Rattle.core_machine.specs.Standing.{Holds}
 use Rattle.core_machine.specs.Turns.{Places}
@@ -10,19 +10,19 @@ use Rattle.core_machine.proofs.run.go_on.Goals as goal
 use Rattle.core_machine.proofs.run.go_on.Goals.{After-run-1}
 
 -- every path's state after all were told
-states-told : (c : After-run-1) → c.tell_all.new.states ≡ map told c.args.run.now.states.items
-states-told c = c.tell_all.ensures ∙ ap (map told) c.deref_mut.ensures.value
+states-told : (c : After-run-1) → c.tell_all.new.states ≡ map with_board c.args.run.now.states.items
+states-told c = c.tell_all.ensures ∙ ap (map with_board) c.deref_mut.ensures.value
 
-states-are : (c : After-run-1) → (with_items c.args.run.now.states c.tell_all.new.states).items ≡ map told c.args.run.now.states.items
+states-are : (c : After-run-1) → (with_items c.args.run.now.states c.tell_all.new.states).items ≡ map with_board c.args.run.now.states.items
 states-are c =
     let states = c.args.run.now.states in
-    with_items_is states c.tell_all.new.states (omega (arith, ap length (states-told c), length-map states.items told, states.ok.0)) ∙ states-told c
+    with_items_is states c.tell_all.new.states (omega (arith, ap length (states-told c), length-map states.items with_board, states.ok.0)) ∙ states-told c
 
 pub returns-then-advance-clause-run : goal.returns-then-advance-clause-run
 returns-then-advance-clause-run c =
     let r = c.args.run.now in
     record {
-      sized = ap length (states-are c) ∙ length-map r.states.items told ∙ c.requires.sized;
+      sized = ap length (states-are c) ∙ length-map r.states.items with_board ∙ c.requires.sized;
       phases = c.advance.ensures.phase;
       holds = λ _. subst (λ xs. Holds r.script.now r.paths xs r.answers c.advance.new.self) (sym (states-are c))
           (Holds-told r.script.now r.paths r.states.items r.answers (after_line r.turns c.args.r) c.advance.new.self c.advance.ensures.job c.advance.ensures.places (c.advance.ensures.begins c.if-advance.true) c.requires.holds);
