@@ -33,6 +33,8 @@ AllBytes-brought : (op : Op) → IsOp op → AllBytes (bytes_brought (brought op
 AllBytes-brought ops.Create is = All-nil (λ b. b < 256)
 AllBytes-brought (ops.Write off (Text bytes)) is =
     All-weaker (λ b. is_text_byte b ≡ true) (λ b. b < 256) text_byte_below bytes (AllPass-from_list_all is_text_byte bytes is.1.0)
+AllBytes-brought ops.Open is = All-nil (λ b. b < 256)
+AllBytes-brought ops.Size is = All-nil (λ b. b < 256)
 AllBytes-brought ops.Sync is = All-nil (λ b. b < 256)
 AllBytes-brought (ops.Read off len) is = All-nil (λ b. b < 256)
 
@@ -71,6 +73,8 @@ module _ (s : Job) (job : IsJob s) where
   IsWithinLimits-makes ops.Sync q None within = tt
   IsWithinLimits-makes ops.Sync q (Some c) within = AreWithinLimits-put_lines q c.cells within
   IsWithinLimits-makes (ops.Read off len) q f within = within
+  IsWithinLimits-makes ops.Open q f within = within
+  IsWithinLimits-makes ops.Size q f within = within
 
   IsWithinLimits-effect_in : (o : Option OpLine) (q : List ℕ) (f : File ℕ)
       → IsWithinLimits f → IsWithinLimits (effect_in s (bytes_of s) o q f)

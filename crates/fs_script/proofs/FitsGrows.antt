@@ -16,7 +16,7 @@ use Rattle.fs_script.specs.AnswerKinds.{version_of}
 use Rattle.fs_script.specs.Pending.{Answering}
 use Rattle.fs_script.specs.Effect.{state}
 use Rattle.fs_script.specs.Front.{front}
-use Rattle.fs_script.specs.Fits.{IsNoLater, IsInReach, entry, AreTold, AgreesWithOpen, LineView, line_view, MayWrite, IsAtFront, Accepts, EndsPast, ShowsAsked, IsInTable, Fits}
+use Rattle.fs_script.specs.Fits.{IsSized, IsNoLater, IsInReach, entry, AreTold, AgreesWithOpen, LineView, line_view, MayWrite, IsAtFront, Accepts, EndsPast, ShowsAsked, IsInTable, Fits}
 use Rattle.fs_script.specs.Growth.{AgreeBefore, SamePending}
 use Rattle.fs_script.proofs.Agreement.{pending-agree, is_open-agree}
 use Rattle.fs_script.proofs.States.{state_in-agree, state_in-push}
@@ -105,6 +105,8 @@ IsInTable-push : (compared : Type 0) (w : LineView) (K : List ℕ) (g : ℕ → 
 IsInTable-push compared w K g op (answers.Done v) entries file writes h =
     MatchBool-push (commits op w.pending) (entries v w.number) (λ k. (k.0, subst (λ f. IsSome f) (sym file) k.1)) h
 IsInTable-push compared w K g op (answers.Wrote slots) entries file writes h = Accepts-push w K g (brought op) slots writes h
+IsInTable-push compared w K g op (answers.Staged v n slots) entries file writes h = h
+IsInTable-push compared w K g op (answers.Sized v n frozen) entries file writes h = (h.0, subst (λ f. IsSized f n frozen) (sym file) h.1)
 IsInTable-push compared w K g op (answers.Shown v n body) entries file writes h = subst (λ f. ShowsAsked compared (asked op) f n body) (sym file) h
 IsInTable-push compared w K g op answers.BadF entries file writes h = h
 IsInTable-push compared w K g op (answers.Exists v) entries file writes h = (h.0, subst (λ f. IsSome f) (sym file) h.1)
@@ -112,6 +114,9 @@ IsInTable-push compared w K g op (answers.NoEnt v) entries file writes h = (h.0,
 IsInTable-push compared w K g op (answers.ReadOnly v) entries file writes h =
     (h.0, IsAtFront-push w K g (brought op) v h.1, subst (λ f. IsTrue (is_frozen f)) (sym file) h.2)
 IsInTable-push compared w K g op answers.TooBig entries file writes h = EndsPast-push w K g (brought op) writes h
+IsInTable-push compared w K g op (answers.TooBigAt v) entries file writes h = h
+IsInTable-push compared w K g op (answers.NoSpace need free) entries file writes h = h
+IsInTable-push compared w K g op (answers.DevFault rank) entries file writes h = h
 
 Fits-push_from : (told : List ℕ) (s : Job) (A : Answering) (J : List ℕ) (m n : ℕ) (o : OpLine) (a : Answer) → phase s n ≤ phase s m
     → (IsTrue (is_open_to_change (state s A J (front s A J o.rank o.path n))) → IsTrue (is_open_to_change (state s A (J ++ m ∷ []) (front s A J o.rank o.path n))))

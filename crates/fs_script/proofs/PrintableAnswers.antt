@@ -1,5 +1,5 @@
 -- An answer that fits a legal journal is printable, where the bytes that it shows are compared.
-use Rattle.std.proofs.Common.{◌≡◌, ℕ, ◌^◌, ◌<◌, ◌≤◌, nat_le, List, length, drop, Option, Some, None, sym, subst, arith}
+use Rattle.std.proofs.Common.{Bool, ◌≡◌, ℕ, ◌^◌, ◌<◌, ◌≤◌, nat_le, List, length, drop, Option, Some, None, sym, subst, arith}
 use Rattle.std.specs.Int.{div_ceil}
 use Rattle.std.proofs.Math.Nat.{div-le_self}
 use Rattle.std.proofs.lemmas.Bool.{cond_both, leb-true}
@@ -23,7 +23,7 @@ use Rattle.fs_script.specs.Payload.{brought}
 use Rattle.fs_script.specs.Operations.{Range, asked}
 use Rattle.fs_script.specs.Pending.{Answering}
 use Rattle.fs_script.specs.Effect.{state}
-use Rattle.fs_script.specs.Fits.{AreTold, LineView, line_view, Accepts, ShowsAsked, Fits, body_of}
+use Rattle.fs_script.specs.Fits.{IsSized, AreTold, LineView, line_view, Accepts, ShowsAsked, Fits, body_of}
 use Rattle.fs_script.specs.Journal.{IsLegalJournal}
 use Rattle.fs_script.specs.Grammar.{IsJob, IsOp}
 use Rattle.fs_script.specs.Printable.{IsPrintableBody, IsPrintableAnswer}
@@ -40,10 +40,12 @@ parts_are_few len chunk slots short is = omega (arith, div-le_self len chunk)
 -- no write fills more slots than it has bytes
 slots_are_few : (w : LineView) (op : Op) (slots : ℕ) → IsOp op → Accepts w (brought op) slots → slots < 2 ^ 32
 slots_are_few w ops.Create slots is accepts = absurd accepts
+slots_are_few w ops.Open slots is accepts = absurd accepts
 slots_are_few w (ops.Write off (Text bytes)) slots is accepts =
     parts_are_few (length bytes) w.chunk slots is.1.1 accepts.2
 slots_are_few w ops.Sync slots is accepts = absurd accepts
 slots_are_few w (ops.Read off len) slots is accepts = absurd accepts
+slots_are_few w ops.Size slots is accepts = absurd accepts
 
 -- ---- what a read shows
 
@@ -70,6 +72,11 @@ range_is_printable compared (Some x) (Some f) n body told within shows =
       subst IsPrintableBody (sym (shows.same told)) (IsPrintableBody-body_of range bytes),
     )
 
+-- a file is no longer than the longest
+size_is_printable : (f : File ℕ) (n : ℕ) (frozen : Bool) → IsWithinLimits f → IsSized f n frozen → n < 2 ^ 64
+size_is_printable None n frozen within sized = absurd sized
+size_is_printable (Some f) n frozen within sized = omega (arith, within.length, sized.0)
+
 -- ---- each answer
 
 -- versions count the lines of a journal, which are no more than those of the job
@@ -85,6 +92,9 @@ IsPrintableAnswer-fits told s A J n o a job all legal is fits = by a fits
     by (answers.Done v) fit = omega (arith, fit.version.length, few)
     by (answers.Wrote slots) fit =
         slots_are_few (line_view s A J n o) o.op slots (IsOpLine-from_job s n o job is).op fit.answer
+    by (answers.Staged v m slots) fit = absurd fit.answer
+    by (answers.Sized v m frozen) fit =
+        (omega (arith, fit.version.length, few), size_is_printable (state s A J v) m frozen (IsWithinLimits-state s job A J v) fit.answer.1)
     by (answers.Shown v m body) fit =
         let file = IsWithinLimits-state s job A J v in
         let range = range_is_printable (AreTold s told) (asked o.op) (state s A J v) m body all file fit.answer in
@@ -94,3 +104,6 @@ IsPrintableAnswer-fits told s A J n o a job all legal is fits = by a fits
     by (answers.NoEnt v) fit = omega (arith, fit.version.length, few)
     by (answers.ReadOnly v) fit = omega (arith, fit.version.length, few)
     by answers.TooBig fit = tt
+    by (answers.TooBigAt v) fit = absurd fit.answer
+    by (answers.NoSpace need free) fit = absurd fit.answer
+    by (answers.DevFault rank) fit = absurd fit.answer

@@ -1,5 +1,5 @@
 -- The text of a printable report reads as that report, whatever follows it.
-use Rattle.std.proofs.Common.{◌≡◌, ℕ, zero, suc, Result, ◌==◌, slice_index, ◌^◌, ◌<◌, Bool, true, false, List, [], ◌∷◌, ◌++◌, map, length, codes, refl, sym, ap, ◌∙◌, subst, arith}
+use Rattle.std.proofs.Common.{◌≡◌, ℕ, zero, suc, Result, ◌==◌, slice_index, ◌^◌, ◌<◌, Bool, true, false, List, [], ◌∷◌, ◌++◌, map, length, drop, codes, refl, sym, ap, ◌∙◌, subst, arith}
 use mathlib.Core.List.{append_assoc, append-nil}
 use Rattle.std.specs.List.{AllByRecursion, flat_map}
 use Rattle.std.specs.Fmt.{decimal}
@@ -16,10 +16,10 @@ use Rattle.fs_types.specs.declared.answer.Body.TheVariants as bodies
 use Rattle.fs_types.specs.declared.file_state.FileState.{FileState}
 use Rattle.fs_types.specs.declared.file_state.FileState.TheVariants as states
 use Rattle.fs_script.specs.Report.{Report}
-use Rattle.fs_script.specs.Text.{text, answer_text, answer_line, body_text, entry_text, journal_line, flag_text, file_text, file_line, path_lines, line_feed}
+use Rattle.fs_script.specs.Text.{text, spaced, answer_words, answer_line, body_text, version_word, count_word, frozen_word, entry_text, journal_line, file_words, file_line, path_lines, line_feed}
 use Rattle.fs_script.specs.Printable.{AreBytes, IsPrintableBody, IsPrintableAnswer, IsPrintableLine, IsPrintableJournal, IsPrintableState, IsPrintableFile, IsPrintable}
 use Rattle.fs_script.proofs.TextParts.{AreAbove, cut_at, cut_at-first, cut_at-none, AreAbove-append, AreAbove-lower, AreAbove-decimal, AreAbove-encode_lower, AreAbove-path}
-use Rattle.fs_script.proofs.TextReader.{number, bytes_of_hex, read_body, read_answer, read_state, with_answer, with_journal, with_file, with_line, read_lines, read}
+use Rattle.fs_script.proofs.TextReader.{number, bytes_of_hex, read_body, read_four, read_answer, read_state, with_answer, with_journal, with_file, with_line, read_lines, read}
 
 -- ---- numbers and hex text
 
@@ -69,6 +69,11 @@ read-line line rest words h =
     ap (λ bytes. read bytes) (append_assoc line line_feed rest)
     ∙ (ap (λ lines. read_lines lines) (cut_at-first 10 line rest h.above) ∙ ap (λ ws. with_line ws (read rest)) h.cut)
 
+-- words with a space between each two
+HasWords-spaced : (word : List ℕ) (words : List (List ℕ)) → AreAbove 32 word → AllByRecursion (AreAbove 32) words → HasWords (spaced (word ∷ words)) (word ∷ words)
+HasWords-spaced word [] h hs = HasWords-one word h
+HasWords-spaced word (next ∷ words) h hs = HasWords-more word (spaced (next ∷ words)) _ h (HasWords-spaced next words hs.0 hs.1)
+
 -- ---- answers
 
 -- the text of a body has no space
@@ -76,67 +81,73 @@ body_above : (body : Body) → IsPrintableBody body → AreAbove 32 (body_text b
 body_above (bodies.Hex bytes) h = AreAbove-encode_lower bytes h.bytes
 body_above (bodies.Md5 digest) h = AreAbove-encode_lower digest h.bytes
 
--- the words of an answer
-abbrev answer_words : Answer → List (List ℕ)
-answer_words (answers.Done v) = codes "ok" ∷ (codes "v=" ++ decimal v) ∷ []
-answer_words (answers.Wrote slots) = codes "ok" ∷ (codes "slots=" ++ decimal slots) ∷ []
-answer_words (answers.Shown v n body) = codes "ok" ∷ (codes "v=" ++ decimal v) ∷ (codes "n=" ++ decimal n) ∷ body_text body ∷ []
-answer_words answers.BadF = codes "badf" ∷ []
-answer_words (answers.Exists v) = codes "exists" ∷ (codes "v=" ++ decimal v) ∷ []
-answer_words (answers.NoEnt v) = codes "noent" ∷ (codes "v=" ++ decimal v) ∷ []
-answer_words (answers.ReadOnly v) = codes "readonly" ∷ (codes "v=" ++ decimal v) ∷ []
-answer_words answers.TooBig = codes "toobig" ∷ []
+-- nor has that of a flag
+flag_above : (flag : Bool) → AreAbove 32 (frozen_word flag)
+flag_above false = refl
+flag_above true = refl
 
--- two words, the second of them a number with its name
-two_words : (word name : List ℕ) (n : ℕ) → AreAbove 32 word → AreAbove 32 name → n < 2 ^ 64 → HasWords (word ++ 32 ∷ (name ++ decimal n)) (word ∷ (name ++ decimal n) ∷ [])
-two_words word name n h k small = HasWords-more word (name ++ decimal n) _ h (HasWords-one (name ++ decimal n) (AreAbove-append 32 name (decimal n) k (AreAbove-decimal n small)))
-
--- the text of an answer has these words
-HasWords-answer_text : (a : Answer) → IsPrintableAnswer a → HasWords (answer_text a) (answer_words a)
-HasWords-answer_text (answers.Done v) h = two_words (codes "ok") (codes "v=") v refl refl h
-HasWords-answer_text (answers.Wrote slots) h = two_words (codes "ok") (codes "slots=") slots refl refl (small_of_32 slots h)
-HasWords-answer_text (answers.Shown v n body) h =
-    let version = codes "v=" ++ decimal v in
-    let count = codes "n=" ++ decimal n in
-    let last = HasWords-one (body_text body) (body_above body h.shown) in
-    let counted = HasWords-more count (body_text body) _ (AreAbove-decimal n h.count) last in
-    let versioned = HasWords-more version (count ++ 32 ∷ body_text body) _ (AreAbove-decimal v h.version) counted in
-    let whole = HasWords-more (codes "ok") (version ++ 32 ∷ (count ++ 32 ∷ body_text body)) _ refl versioned in
-    HasWords-same (answer_text (answers.Shown v n body)) (codes "ok" ++ 32 ∷ (version ++ 32 ∷ (count ++ 32 ∷ body_text body))) _ (simp append_assoc) whole
-HasWords-answer_text answers.BadF h = HasWords-one (codes "badf") refl
-HasWords-answer_text (answers.Exists v) h = two_words (codes "exists") (codes "v=") v refl refl h
-HasWords-answer_text (answers.NoEnt v) h = two_words (codes "noent") (codes "v=") v refl refl h
-HasWords-answer_text (answers.ReadOnly v) h = two_words (codes "readonly") (codes "v=") v refl refl h
-HasWords-answer_text answers.TooBig h = HasWords-one (codes "toobig") refl
+-- nor a word of an answer
+answer_above : (a : Answer) → IsPrintableAnswer a → AllByRecursion (AreAbove 32) (answer_words a)
+answer_above (answers.Done v) h = (refl, (AreAbove-decimal v h, tt))
+answer_above (answers.Wrote slots) h = (refl, (AreAbove-decimal slots (small_of_32 slots h), tt))
+answer_above (answers.Staged v n slots) h = (refl, (AreAbove-decimal v h.0, (AreAbove-decimal n h.1, (AreAbove-decimal slots (small_of_32 slots h.2), tt))))
+answer_above (answers.Sized v n frozen) h = (refl, (AreAbove-decimal v h.0, (AreAbove-decimal n h.1, (flag_above frozen, tt))))
+answer_above (answers.Shown v n body) h = (refl, (AreAbove-decimal v h.version, (AreAbove-decimal n h.count, (body_above body h.shown, tt))))
+answer_above answers.BadF h = (refl, tt)
+answer_above (answers.Exists v) h = (refl, (AreAbove-decimal v h, tt))
+answer_above (answers.NoEnt v) h = (refl, (AreAbove-decimal v h, tt))
+answer_above (answers.ReadOnly v) h = (refl, (AreAbove-decimal v h, tt))
+answer_above answers.TooBig h = (refl, tt)
+answer_above (answers.TooBigAt v) h = (refl, (AreAbove-decimal v h, tt))
+answer_above (answers.NoSpace need free) h = (refl, (AreAbove-decimal need h.0, (AreAbove-decimal free h.1, tt)))
+answer_above (answers.DevFault rank) h = (refl, (AreAbove-decimal rank (small_of_32 rank h), tt))
 
 -- the text of a body reads as the body
 read_body-text : (body : Body) → IsPrintableBody body → read_body (body_text body) ≡ body
 read_body-text (bodies.Hex bytes) h = ap bodies.Hex (bytes_of_hex-encode_lower bytes h.bytes)
 read_body-text (bodies.Md5 digest) h = ap bodies.Md5 (bytes_of_hex-encode_lower digest h.bytes)
 
+-- that of a flag says which one it is
+read-flag : (flag : Bool) → (slice_index (frozen_word flag) 7 == 49) ≡ flag
+read-flag false = refl
+read-flag true = refl
+
+-- three numbers, or two and what else stands in their line
+alike : {X Y : Type 0} (make : ℕ → ℕ → X → Y) {v w n m : ℕ} {x y : X} → v ≡ w → n ≡ m → x ≡ y → make v n x ≡ make w m y
+alike make e f g = rw (e, f, g) refl
+
+-- a body begins with neither letter that would make it something else
+read_four-body : (v n : List ℕ) (body : Body) → read_four v n (body_text body) ≡ answers.Shown (number (drop 2 v)) (number (drop 2 n)) (read_body (body_text body))
+read_four-body v n (bodies.Hex bytes) = refl
+read_four-body v n (bodies.Md5 digest) = refl
+
+read_four-flag : (v n : List ℕ) (frozen : Bool) → read_four v n (frozen_word frozen) ≡ answers.Sized (number (drop 2 v)) (number (drop 2 n)) frozen
+read_four-flag v n false = refl
+read_four-flag v n true = refl
+
 -- the words of an answer read as the answer
 read_answer-words : (a : Answer) → IsPrintableAnswer a → read_answer (answer_words a) ≡ a
 read_answer-words (answers.Done v) h = ap answers.Done (number-decimal v h)
 read_answer-words (answers.Wrote slots) h = ap answers.Wrote (number-decimal slots (small_of_32 slots h))
+read_answer-words (answers.Staged v n slots) h = alike answers.Staged (number-decimal v h.0) (number-decimal n h.1) (number-decimal slots (small_of_32 slots h.2))
+read_answer-words (answers.Sized v n frozen) h =
+    read_four-flag (version_word v) (count_word n) frozen ∙ alike answers.Sized (number-decimal v h.0) (number-decimal n h.1) refl
 read_answer-words (answers.Shown v n body) h =
-    let version = number-decimal v h.version in
-    let count = number-decimal n h.count in
-    let shown = read_body-text body h.shown in
-    cc
+    read_four-body (version_word v) (count_word n) body ∙ alike answers.Shown (number-decimal v h.version) (number-decimal n h.count) (read_body-text body h.shown)
 read_answer-words answers.BadF h = refl
 read_answer-words (answers.Exists v) h = ap answers.Exists (number-decimal v h)
 read_answer-words (answers.NoEnt v) h = ap answers.NoEnt (number-decimal v h)
 read_answer-words (answers.ReadOnly v) h = ap answers.ReadOnly (number-decimal v h)
 read_answer-words answers.TooBig h = refl
+read_answer-words (answers.TooBigAt v) h = ap answers.TooBigAt (number-decimal v h)
+read_answer-words (answers.NoSpace need free) h = rw (number-decimal need h.0, number-decimal free h.1) refl
+read_answer-words (answers.DevFault rank) h = ap answers.DevFault (number-decimal rank (small_of_32 rank h))
 
 -- the line of an answer reads as one more answer
 read-answer_line : (a : ℕ × Answer) (rest : List ℕ) → IsPrintableLine a → read (answer_line a ++ rest) ≡ with_answer a (read rest)
 read-answer_line a rest h =
-    let line = codes "L " ++ decimal a.0 ++ codes " " ++ answer_text a.1 in
     let small = small_of_32 a.0 h.line in
-    let numbered = HasWords-more (decimal a.0) (answer_text a.1) _ (AreAbove-decimal a.0 small) (HasWords-answer_text a.1 h.answer) in
-    let whole = HasWords-more (codes "L") (decimal a.0 ++ 32 ∷ answer_text a.1) _ refl numbered in
-    read-line line rest (codes "L" ∷ decimal a.0 ∷ answer_words a.1) (HasWords-same line (codes "L" ++ 32 ∷ (decimal a.0 ++ 32 ∷ answer_text a.1)) _ (simp append_assoc) whole)
+    read-line _ rest _ (HasWords-spaced (codes "L") (decimal a.0 ∷ answer_words a.1) refl (AreAbove-decimal a.0 small, answer_above a.1 h.answer))
     ∙ (ap (λ (n : ℕ). with_answer (n, read_answer (answer_words a.1)) (read rest)) (number-decimal a.0 small) ∙ ap (λ (b : Answer). with_answer (a.0, b) (read rest)) (read_answer-words a.1 h.answer))
 
 -- ---- journals
@@ -160,49 +171,25 @@ read-journal_line j rest h =
 
 -- ---- files
 
--- the text of a flag has no space
-flag_above : (flag : Bool) → AreAbove 32 (flag_text flag)
-flag_above false = refl
-flag_above true = refl
-
--- and says which one it is
-read-flag : (flag : Bool) → (slice_index (codes "frozen=" ++ flag_text flag) 7 == 49) ≡ flag
-read-flag false = refl
-read-flag true = refl
-
--- the words of a file after its path
-abbrev state_words : FileState → List (List ℕ)
-state_words states.Gone = codes "none" ∷ []
-state_words (states.Whole n frozen md5) = (codes "n=" ++ decimal n) ∷ (codes "frozen=" ++ flag_text frozen) ∷ (codes "md5=" ++ encode_lower md5) ∷ []
-
--- a path and the text of a file have these words
-HasWords-state : (path : List ℕ) (s : FileState) → AreAbove 32 path → IsPrintableState s → HasWords (path ++ file_text s) (path ∷ state_words s)
-HasWords-state path states.Gone above h = HasWords-more path (codes "none") _ above (HasWords-one (codes "none") refl)
-HasWords-state path (states.Whole n frozen md5) above h =
-    let count = codes "n=" ++ decimal n in
-    let flag = codes "frozen=" ++ flag_text frozen in
-    let digest = codes "md5=" ++ encode_lower md5 in
-    let last = HasWords-one digest (AreAbove-encode_lower md5 h.digest.bytes) in
-    let flagged = HasWords-more flag digest _ (flag_above frozen) last in
-    let counted = HasWords-more count (flag ++ 32 ∷ digest) _ (AreAbove-decimal n h.count) flagged in
-    let whole = HasWords-more path (count ++ 32 ∷ (flag ++ 32 ∷ digest)) _ above counted in
-    HasWords-same (path ++ file_text (states.Whole n frozen md5)) (path ++ 32 ∷ (count ++ 32 ∷ (flag ++ 32 ∷ digest))) _ (simp append_assoc) whole
+-- no word of a file has a space
+file_above : (f : FileState) → IsPrintableState f → AllByRecursion (AreAbove 32) (file_words f)
+file_above states.Gone h = (refl, tt)
+file_above (states.Whole n frozen md5) h = (AreAbove-decimal n h.count, (flag_above frozen, (AreAbove-encode_lower md5 h.digest.bytes, tt)))
+file_above (states.Unread n frozen rank) h = (AreAbove-decimal n h.0, (flag_above frozen, (refl, (AreAbove-decimal rank (small_of_32 rank h.1), tt))))
 
 -- the words of a file read as the file
-read_state-words : (s : FileState) → IsPrintableState s → read_state (state_words s) ≡ s
+read_state-words : (f : FileState) → IsPrintableState f → read_state (file_words f) ≡ f
 read_state-words states.Gone h = refl
 read_state-words (states.Whole n frozen md5) h =
-    let count = number-decimal n h.count in
-    let flag = read-flag frozen in
-    let digest = bytes_of_hex-encode_lower md5 h.digest.bytes in
-    cc
+    rw (number-decimal n h.count, read-flag frozen, bytes_of_hex-encode_lower md5 h.digest.bytes) refl
+read_state-words (states.Unread n frozen rank) h =
+    rw (number-decimal n h.0, read-flag frozen, number-decimal rank (small_of_32 rank h.1)) refl
 
 -- the line of a file reads as one more file
 read-file_line : (f : List ℕ × FileState) (rest : List ℕ) → IsPrintableFile f → read (file_line f ++ rest) ≡ with_file f (read rest)
 read-file_line f rest h =
-    let line = codes "F " ++ f.0 ++ file_text f.1 in
-    let whole = HasWords-more (codes "F") (f.0 ++ file_text f.1) _ refl (HasWords-state f.0 f.1 (AreAbove-path f.0 h.path) h.state) in
-    read-line line rest (codes "F" ∷ f.0 ∷ state_words f.1) whole ∙ ap (λ (s : FileState). with_file (f.0, s) (read rest)) (read_state-words f.1 h.state)
+    read-line _ rest _ (HasWords-spaced (codes "F") (f.0 ∷ file_words f.1) refl (AreAbove-path f.0 h.path, file_above f.1 h.state))
+    ∙ ap (λ (s : FileState). with_file (f.0, s) (read rest)) (read_state-words f.1 h.state)
 
 -- ---- the whole text
 

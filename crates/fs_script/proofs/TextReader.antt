@@ -25,25 +25,39 @@ bytes_of_hex word = result_unwrap_or (decode_of word) []
 abbrev pub read_body : List ℕ → Body
 read_body word = if slice_index word 0 == 104 then bodies.Hex (bytes_of_hex (drop 4 word)) else bodies.Md5 (bytes_of_hex (drop 4 word))
 
+-- the words of an answer after its line, where there are two of them
+abbrev pub read_two : ℕ → List ℕ → Answer
+read_two letter word =
+    if letter == 101 then answers.Exists (number (drop 2 word))
+    else if letter == 110 then answers.NoEnt (number (drop 2 word))
+    else if letter == 114 then answers.ReadOnly (number (drop 2 word))
+    else if letter == 116 then answers.TooBigAt (number (drop 2 word))
+    else if letter == 100 then answers.DevFault (number (drop 2 word))
+    else if slice_index word 0 == 115 then answers.Wrote (number (drop 6 word))
+    else answers.Done (number (drop 2 word))
+
+-- and where there are four
+abbrev pub read_four : List ℕ → List ℕ → List ℕ → Answer
+read_four v n last =
+    if slice_index last 0 == 115 then answers.Staged (number (drop 2 v)) (number (drop 2 n)) (number (drop 6 last))
+    else if slice_index last 0 == 102 then answers.Sized (number (drop 2 v)) (number (drop 2 n)) (slice_index last 7 == 49)
+    else answers.Shown (number (drop 2 v)) (number (drop 2 n)) (read_body last)
+
 -- the words of an answer after its line
 abbrev pub read_answer : List (List ℕ) → Answer
 read_answer [] = answers.BadF
 read_answer (kind ∷ []) = if slice_index kind 0 == 98 then answers.BadF else answers.TooBig
-read_answer (kind ∷ v ∷ []) =
-    if slice_index kind 0 == 101 then answers.Exists (number (drop 2 v))
-    else if slice_index kind 0 == 110 then answers.NoEnt (number (drop 2 v))
-    else if slice_index kind 0 == 114 then answers.ReadOnly (number (drop 2 v))
-    else if slice_index v 0 == 115 then answers.Wrote (number (drop 6 v))
-    else answers.Done (number (drop 2 v))
-read_answer (kind ∷ v ∷ n ∷ []) = answers.BadF
-read_answer (kind ∷ v ∷ n ∷ body ∷ rest) = answers.Shown (number (drop 2 v)) (number (drop 2 n)) (read_body body)
+read_answer (kind ∷ v ∷ []) = read_two (slice_index kind 0) v
+read_answer (kind ∷ need ∷ free ∷ []) = answers.NoSpace (number (drop 5 need)) (number (drop 5 free))
+read_answer (kind ∷ v ∷ n ∷ last ∷ rest) = read_four v n last
 
 -- the words of a file after its path
 abbrev pub read_state : List (List ℕ) → FileState
 read_state [] = states.Gone
 read_state (n ∷ []) = states.Gone
 read_state (n ∷ frozen ∷ []) = states.Gone
-read_state (n ∷ frozen ∷ md5 ∷ rest) = states.Whole (number (drop 2 n)) (slice_index frozen 7 == 49) (bytes_of_hex (drop 4 md5))
+read_state (n ∷ frozen ∷ md5 ∷ []) = states.Whole (number (drop 2 n)) (slice_index frozen 7 == 49) (bytes_of_hex (drop 4 md5))
+read_state (n ∷ frozen ∷ fault ∷ rank ∷ rest) = states.Unread (number (drop 2 n)) (slice_index frozen 7 == 49) (number (drop 2 rank))
 
 -- nothing was answered, and no path was named
 abbrev pub empty_report : Report

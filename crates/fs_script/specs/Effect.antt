@@ -21,16 +21,20 @@ with_lines s c q (Some f) = Some (record { cells = put_lines s c q f.cells; froz
 -- whether an operation may be committed over this file
 abbrev pub is_enabled : {X : Type 0} → Op → File X → Bool
 is_enabled ops.Create f = not (is_some f)
+is_enabled ops.Open f = false
 is_enabled (ops.Write off text) f = false
 is_enabled ops.Sync f = is_open_to_change f
 is_enabled (ops.Read off len) f = false
+is_enabled ops.Size f = false
 
 -- what it makes of the file then, with these lines pending
 abbrev pub makes : {X : Type 0} → Job → Cells X → Op → List ℕ → File X → File X
 makes s c ops.Create q f = Some (record { cells = []; frozen = false })
+makes s c ops.Open q f = f
 makes s c (ops.Write off text) q f = f
 makes s c ops.Sync q f = with_lines s c q f
 makes s c (ops.Read off len) q f = f
+makes s c ops.Size q f = f
 
 -- an operation's effect on a file, with these lines pending; where it isn't enabled, the file stays
 abbrev pub effect_of : {X : Type 0} → Job → Cells X → Op → List ℕ → File X → File X

@@ -13,7 +13,7 @@ use Rattle.fs_script.specs.declared.line.OpLine.{OpLine}
 use Rattle.fs_script.specs.declared.line.Op.{Op}
 use Rattle.fs_script.specs.Job.{Job, rank_at, phase}
 use Rattle.fs_script.specs.Payload.{Write, brought, parts_of}
-use Rattle.fs_script.specs.Operations.{Range, asked, needs_open, needs_file, needs_no_file, needs_unfrozen, commits, finds_file}
+use Rattle.fs_script.specs.Operations.{Range, asked, asks_size, needs_open, needs_file, needs_no_file, needs_unfrozen, commits, finds_file}
 use Rattle.fs_script.specs.AnswerKinds.{version_of, is_badf}
 use Rattle.fs_script.specs.Pending.{Answering, pending}
 use Rattle.fs_script.specs.Effect.{state}
@@ -97,11 +97,19 @@ ShowsAsked compared None f n body = ⊥
 ShowsAsked compared (Some x) None n body = ⊥
 ShowsAsked compared (Some x) (Some f) n body = Shows compared (shown f.cells x.off x.len) n body
 
--- the table: each answer, the operations that may have it, and where
+-- a file is there, has so many bytes, and is frozen or not
+abbrev pub IsSized : File ℕ → ℕ → Bool → Type 0
+IsSized None n frozen = ⊥
+IsSized (Some f) n frozen = (n ≡ length f.cells) × (frozen ≡ f.frozen)
+
+-- the table: each answer, the operations that may have it, and where; no operation stages a file, logs have room for all
+-- that is written, and nothing is spilled
 abbrev pub IsInTable : Type 0 → LineView → Op → Answer → Type 0
 IsInTable compared w op (answers.Done v) =
     MatchBool (commits op w.pending) (entry w.journal v ≡ Some w.number) (IsTrue (finds_file op) × IsSome (w.file v))
 IsInTable compared w op (answers.Wrote slots) = Accepts w (brought op) slots
+IsInTable compared w op (answers.Staged v n slots) = ⊥
+IsInTable compared w op (answers.Sized v n frozen) = IsTrue (asks_size op) × IsSized (w.file v) n frozen
 IsInTable compared w op (answers.Shown v n body) = ShowsAsked compared (asked op) (w.file v) n body
 IsInTable compared w op answers.BadF = IsTrue (needs_open op)
 IsInTable compared w op (answers.Exists v) = IsTrue (needs_no_file op) × IsSome (w.file v)
@@ -109,6 +117,9 @@ IsInTable compared w op (answers.NoEnt v) = IsTrue (needs_file op) × IsAtFront 
 IsInTable compared w op (answers.ReadOnly v) =
     IsTrue (needs_unfrozen op w.pending) × IsAtFront w (brought op) v × IsTrue (is_frozen (w.file v))
 IsInTable compared w op answers.TooBig = EndsPast w (brought op)
+IsInTable compared w op (answers.TooBigAt v) = ⊥
+IsInTable compared w op (answers.NoSpace need free) = ⊥
+IsInTable compared w op (answers.DevFault rank) = ⊥
 
 -- a line's answer fits a journal of its path, with these answers of earlier lines
 pub record Fits (told : List ℕ) (s : Job) (A : Answering) (J : List ℕ) (n : ℕ) (o : OpLine) (a : Answer) : Type 0 where

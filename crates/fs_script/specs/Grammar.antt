@@ -48,9 +48,11 @@ data_text (Text bytes) = codes "t:" ++ bytes
 -- an operation on a path, without its client
 abbrev pub op_text : Op → List ℕ → List ℕ
 op_text ops.Create p = codes "create " ++ p
+op_text ops.Open p = codes "open " ++ p
 op_text (ops.Write off text) p = codes "write " ++ p ++ codes " " ++ decimal off ++ codes " " ++ data_text text
 op_text ops.Sync p = codes "sync " ++ p
 op_text (ops.Read off len) p = codes "read " ++ p ++ codes " " ++ decimal off ++ codes " " ++ decimal len
+op_text ops.Size p = codes "size " ++ p
 
 abbrev pub IsData : Data → Type 0
 IsData (Text bytes) = AreTextBytes bytes × (length bytes ≤ TRANSFER_LIMIT)
@@ -58,9 +60,11 @@ IsData (Text bytes) = AreTextBytes bytes × (length bytes ≤ TRANSFER_LIMIT)
 -- the numbers and bytes that an operation may have
 abbrev pub IsOp : Op → Type 0
 IsOp ops.Create = Unit {0}
+IsOp ops.Open = Unit {0}
 IsOp (ops.Write off text) = (off < 2 ^ 64) × IsData text
 IsOp ops.Sync = Unit {0}
 IsOp (ops.Read off len) = (off < 2 ^ 64) × (len ≤ TRANSFER_LIMIT)
+IsOp ops.Size = Unit {0}
 
 -- an operation that a client of the job may do
 pub record IsOpLine (h : Shape) (o : OpLine) : Type 0 where

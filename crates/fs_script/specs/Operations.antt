@@ -11,51 +11,65 @@ has_any (n ∷ ns) = true
 -- it may be done only on a path that its client has opened
 abbrev pub needs_open : Op → Bool
 needs_open ops.Create = false
+needs_open ops.Open = false
 needs_open (ops.Write off text) = true
 needs_open ops.Sync = true
 needs_open (ops.Read off len) = true
+needs_open ops.Size = true
 
 -- once it is done its client has opened the path
 abbrev pub opens_path : Op → Bool
 opens_path ops.Create = true
+opens_path ops.Open = true
 opens_path (ops.Write off text) = false
 opens_path ops.Sync = false
 opens_path (ops.Read off len) = false
+opens_path ops.Size = false
 
 -- it may be done only where there is a file
 abbrev pub needs_file : Op → Bool
 needs_file ops.Create = false
+needs_file ops.Open = true
 needs_file (ops.Write off text) = true
 needs_file ops.Sync = true
 needs_file (ops.Read off len) = true
+needs_file ops.Size = true
 
 -- it may be done only where there is no file
 abbrev pub needs_no_file : Op → Bool
 needs_no_file ops.Create = true
+needs_no_file ops.Open = false
 needs_no_file (ops.Write off text) = false
 needs_no_file ops.Sync = false
 needs_no_file (ops.Read off len) = false
+needs_no_file ops.Size = false
 
 -- with these lines pending, it may be done only on a file that isn't frozen
 abbrev pub needs_unfrozen : Op → List ℕ → Bool
 needs_unfrozen ops.Create q = false
+needs_unfrozen ops.Open q = false
 needs_unfrozen (ops.Write off text) q = true
 needs_unfrozen ops.Sync q = has_any q
 needs_unfrozen (ops.Read off len) q = false
+needs_unfrozen ops.Size q = false
 
 -- with these lines pending, it is committed once it is done: a create, and a sync of something
 abbrev pub commits : Op → List ℕ → Bool
 commits ops.Create q = true
+commits ops.Open q = false
 commits (ops.Write off text) q = false
 commits ops.Sync q = has_any q
 commits (ops.Read off len) q = false
+commits ops.Size q = false
 
 -- where it isn't committed, it may find a file as it is
 abbrev pub finds_file : Op → Bool
 finds_file ops.Create = false
+finds_file ops.Open = true
 finds_file (ops.Write off text) = false
 finds_file ops.Sync = true
 finds_file (ops.Read off len) = false
+finds_file ops.Size = false
 
 -- the bytes that a read asks for: from a place on, so many
 pub record Range : Type 0 where
@@ -65,6 +79,17 @@ pub record Range : Type 0 where
 -- the range of the file that an operation shows, if it does
 abbrev pub asked : Op → Option Range
 asked ops.Create = None
+asked ops.Open = None
 asked (ops.Write off text) = None
 asked ops.Sync = None
 asked (ops.Read off len) = Some (record { off = off; len = len })
+asked ops.Size = None
+
+-- it asks how long the file is
+abbrev pub asks_size : Op → Bool
+asks_size ops.Create = false
+asks_size ops.Open = false
+asks_size (ops.Write off text) = false
+asks_size ops.Sync = false
+asks_size (ops.Read off len) = false
+asks_size ops.Size = true

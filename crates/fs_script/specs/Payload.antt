@@ -20,9 +20,11 @@ pub record Write : Type 0 where
 -- what an operation brings into its client's log, if it does
 abbrev pub brought : Op → Option Write
 brought ops.Create = None
+brought ops.Open = None
 brought (ops.Write off text) = Some (record { at = off; bytes = data_bytes text })
 brought ops.Sync = None
 brought (ops.Read off len) = None
+brought ops.Size = None
 
 abbrev pub brought_in : Option OpLine → Option Write
 brought_in None = None

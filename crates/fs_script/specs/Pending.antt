@@ -19,9 +19,11 @@ with_write n bytes q = if length bytes == 0 then q else q ++ n ∷ []
 -- what is pending after line n had this answer
 abbrev pub after_answer : Op → Answer → ℕ → List ℕ → List ℕ
 after_answer ops.Create a n q = q
+after_answer ops.Open a n q = q
 after_answer (ops.Write off text) a n q = if is_accepted a then with_write n (data_bytes text) q else q
 after_answer ops.Sync a n q = if empties a then [] else q
 after_answer (ops.Read off len) a n q = q
+after_answer ops.Size a n q = q
 
 abbrev pub after : Option Op → Option Answer → ℕ → List ℕ → List ℕ
 after None a n q = q

@@ -36,16 +36,21 @@ pub record IsPrintableRead (v n : ℕ) (body : Body) : Type 0 where
   pub count : n < 2 ^ 64
   pub shown : IsPrintableBody body
 
--- versions have 64 bits, and slots 32
+-- versions and numbers of bytes and of free slots have 64 bits; slots that a line fills, and clients, have 32
 abbrev pub IsPrintableAnswer : Answer → Type 0
 IsPrintableAnswer (answers.Done v) = v < 2 ^ 64
 IsPrintableAnswer (answers.Wrote slots) = slots < 2 ^ 32
+IsPrintableAnswer (answers.Staged v n slots) = (v < 2 ^ 64) × (n < 2 ^ 64) × (slots < 2 ^ 32)
+IsPrintableAnswer (answers.Sized v n frozen) = (v < 2 ^ 64) × (n < 2 ^ 64)
 IsPrintableAnswer (answers.Shown v n body) = IsPrintableRead v n body
 IsPrintableAnswer answers.BadF = Unit {0}
 IsPrintableAnswer (answers.Exists v) = v < 2 ^ 64
 IsPrintableAnswer (answers.NoEnt v) = v < 2 ^ 64
 IsPrintableAnswer (answers.ReadOnly v) = v < 2 ^ 64
 IsPrintableAnswer answers.TooBig = Unit {0}
+IsPrintableAnswer (answers.TooBigAt v) = v < 2 ^ 64
+IsPrintableAnswer (answers.NoSpace need free) = (need < 2 ^ 64) × (free < 2 ^ 64)
+IsPrintableAnswer (answers.DevFault rank) = rank < 2 ^ 32
 
 -- an answer with its line, which has 32 bits
 pub record IsPrintableLine (a : ℕ × Answer) : Type 0 where
@@ -66,6 +71,7 @@ pub record IsPrintableContent (n : ℕ) (md5 : List ℕ) : Type 0 where
 abbrev pub IsPrintableState : FileState → Type 0
 IsPrintableState states.Gone = Unit {0}
 IsPrintableState (states.Whole n frozen md5) = IsPrintableContent n md5
+IsPrintableState (states.Unread n frozen rank) = (n < 2 ^ 64) × (rank < 2 ^ 32)
 
 -- a file with its path
 pub record IsPrintableFile (f : List ℕ × FileState) : Type 0 where

@@ -89,7 +89,12 @@ abbrev pub data_of : List ℕ → Option Data
 data_of word = if starts_with nat_eq word (codes "t:") then text_of (drop 2 word) else None
 
 abbrev pub op_without_numbers : List ℕ → Option Op
-op_without_numbers kind = if bytes_eq kind (codes "create") then Some ops.Create else if bytes_eq kind (codes "sync") then Some ops.Sync else None
+op_without_numbers kind =
+    if bytes_eq kind (codes "create") then Some ops.Create
+    else if bytes_eq kind (codes "open") then Some ops.Open
+    else if bytes_eq kind (codes "sync") then Some ops.Sync
+    else if bytes_eq kind (codes "size") then Some ops.Size
+    else None
 
 abbrev pub write_of : List ℕ → List ℕ → Option Op
 write_of a b = do

@@ -1,6 +1,6 @@
 -- The text of a report.
 use Rattle.std.specs.Prelude.{ℕ, Bool, true, false, List, [], ◌∷◌, ◌++◌, codes}
-use Rattle.std.specs.List.{flat_map}
+use Rattle.std.specs.List.{flat_map, join_with_byte}
 use Rattle.std.specs.Fmt.{decimal}
 use Rattle.hex.specs.Hex.{encode_lower}
 use Rattle.fs_types.specs.declared.answer.Answer.{Answer}
@@ -15,23 +15,51 @@ use Rattle.fs_script.specs.Report.{Report}
 abbrev pub line_feed : List ℕ
 line_feed = 10 ∷ []
 
+-- words with a space between each two
+abbrev pub spaced : List (List ℕ) → List ℕ
+spaced words = join_with_byte 32 words
+
 abbrev pub body_text : Body → List ℕ
 body_text (bodies.Hex bytes) = codes "hex=" ++ encode_lower bytes
 body_text (bodies.Md5 digest) = codes "md5=" ++ encode_lower digest
 
-abbrev pub answer_text : Answer → List ℕ
-answer_text (answers.Done v) = codes "ok v=" ++ decimal v
-answer_text (answers.Wrote slots) = codes "ok slots=" ++ decimal slots
-answer_text (answers.Shown v n body) = codes "ok v=" ++ decimal v ++ codes " n=" ++ decimal n ++ codes " " ++ body_text body
-answer_text answers.BadF = codes "badf"
-answer_text (answers.Exists v) = codes "exists v=" ++ decimal v
-answer_text (answers.NoEnt v) = codes "noent v=" ++ decimal v
-answer_text (answers.ReadOnly v) = codes "readonly v=" ++ decimal v
-answer_text answers.TooBig = codes "toobig"
+abbrev pub flag_text : Bool → List ℕ
+flag_text false = codes "0"
+flag_text true = codes "1"
+
+abbrev pub version_word : ℕ → List ℕ
+version_word v = codes "v=" ++ decimal v
+
+abbrev pub count_word : ℕ → List ℕ
+count_word n = codes "n=" ++ decimal n
+
+abbrev pub frozen_word : Bool → List ℕ
+frozen_word frozen = codes "frozen=" ++ flag_text frozen
+
+abbrev pub slots_word : ℕ → List ℕ
+slots_word slots = codes "slots=" ++ decimal slots
+
+abbrev pub rank_word : ℕ → List ℕ
+rank_word rank = codes "r=" ++ decimal rank
+
+abbrev pub answer_words : Answer → List (List ℕ)
+answer_words (answers.Done v) = codes "ok" ∷ version_word v ∷ []
+answer_words (answers.Wrote slots) = codes "ok" ∷ slots_word slots ∷ []
+answer_words (answers.Staged v n slots) = codes "ok" ∷ version_word v ∷ count_word n ∷ slots_word slots ∷ []
+answer_words (answers.Sized v n frozen) = codes "ok" ∷ version_word v ∷ count_word n ∷ frozen_word frozen ∷ []
+answer_words (answers.Shown v n body) = codes "ok" ∷ version_word v ∷ count_word n ∷ body_text body ∷ []
+answer_words answers.BadF = codes "badf" ∷ []
+answer_words (answers.Exists v) = codes "exists" ∷ version_word v ∷ []
+answer_words (answers.NoEnt v) = codes "noent" ∷ version_word v ∷ []
+answer_words (answers.ReadOnly v) = codes "readonly" ∷ version_word v ∷ []
+answer_words answers.TooBig = codes "toobig" ∷ []
+answer_words (answers.TooBigAt v) = codes "toobig" ∷ version_word v ∷ []
+answer_words (answers.NoSpace need free) = codes "nospace" ∷ (codes "need=" ++ decimal need) ∷ (codes "free=" ++ decimal free) ∷ []
+answer_words (answers.DevFault rank) = codes "devfault" ∷ rank_word rank ∷ []
 
 -- the line of an answer
 abbrev pub answer_line : ℕ × Answer → List ℕ
-answer_line a = codes "L " ++ decimal a.0 ++ codes " " ++ answer_text a.1 ++ line_feed
+answer_line a = spaced (codes "L" ∷ decimal a.0 ∷ answer_words a.1) ++ line_feed
 
 abbrev pub entry_text : ℕ → List ℕ
 entry_text n = codes " " ++ decimal n
@@ -40,17 +68,14 @@ entry_text n = codes " " ++ decimal n
 abbrev pub journal_line : List ℕ × List ℕ → List ℕ
 journal_line j = codes "J " ++ j.0 ++ flat_map entry_text j.1 ++ line_feed
 
-abbrev pub flag_text : Bool → List ℕ
-flag_text false = codes "0"
-flag_text true = codes "1"
-
-abbrev pub file_text : FileState → List ℕ
-file_text states.Gone = codes " none"
-file_text (states.Whole n frozen md5) = codes " n=" ++ decimal n ++ codes " frozen=" ++ flag_text frozen ++ codes " md5=" ++ encode_lower md5
+abbrev pub file_words : FileState → List (List ℕ)
+file_words states.Gone = codes "none" ∷ []
+file_words (states.Whole n frozen md5) = count_word n ∷ frozen_word frozen ∷ (codes "md5=" ++ encode_lower md5) ∷ []
+file_words (states.Unread n frozen rank) = count_word n ∷ frozen_word frozen ∷ codes "devfault" ∷ rank_word rank ∷ []
 
 -- the line of a file
 abbrev pub file_line : List ℕ × FileState → List ℕ
-file_line f = codes "F " ++ f.0 ++ file_text f.1 ++ line_feed
+file_line f = spaced (codes "F" ∷ f.0 ∷ file_words f.1) ++ line_feed
 
 -- each journal, followed by the file at the same place
 abbrev pub path_lines : List (List ℕ × List ℕ) → List (List ℕ × FileState) → List ℕ

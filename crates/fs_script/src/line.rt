@@ -28,12 +28,16 @@ pub struct OpLine {
 pub enum Op {
     /// Makes an empty file.
     Create,
+    /// Opens a file that is there.
+    Open,
     /// Writes bytes into the client's own log.
     Write { off: u64, text: Data },
     /// Commits the client's pending writes at the file's owner.
     Sync,
     /// Reads at most `len` bytes from `off` on.
     Read { off: u64, len: u64 },
+    /// Asks how long the file is, and whether it is frozen.
+    Size,
 }
 
 /// The bytes that a write brings.

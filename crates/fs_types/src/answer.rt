@@ -1,7 +1,7 @@
 //! What a line of a job is answered.
 
 use crate::digest::Digest16;
-use crate::number::Version;
+use crate::number::{Rank, Version};
 use crate::short_bytes::ShortBytes;
 
 /// The bytes that a read shows, or their digest where they are more than [`HEX_LIMIT`](crate::HEX_LIMIT).
@@ -19,6 +19,10 @@ pub enum Answer {
     Done { v: Version },
     /// A write was accepted, and fills this many slots of the client's log.
     Wrote { slots: u32 },
+    /// A source of `n` bytes was staged in, and fills this many slots of the client's log.
+    Staged { v: Version, n: u64, slots: u32 },
+    /// The file has `n` bytes, and is frozen or not.
+    Sized { v: Version, n: u64, frozen: bool },
     /// A read shows `n` bytes of the file.
     Shown { v: Version, n: u64, body: Body },
     /// The client hasn't opened the path.
@@ -31,4 +35,10 @@ pub enum Answer {
     ReadOnly { v: Version },
     /// The write would end past the longest file.
     TooBig,
+    /// The file is longer than what one line moves.
+    TooBigAt { v: Version },
+    /// The client's log has fewer slots free than the line needs.
+    NoSpace { need: u64, free: u64 },
+    /// A call on the spill device of this client failed.
+    DevFault { rank: Rank },
 }

@@ -29,6 +29,8 @@ use Rattle.fs_script.proofs.Reading.Words.{IsWord, is_word-append, is_word-decim
 -- the words after the client
 abbrev pub op_words : Op → List ℕ → List (List ℕ)
 op_words ops.Create p = codes "create" ∷ p ∷ []
+op_words ops.Open p = codes "open" ∷ p ∷ []
+op_words ops.Size p = codes "size" ∷ p ∷ []
 op_words (ops.Write off text) p = codes "write" ∷ p ∷ decimal off ∷ data_text text ∷ []
 op_words ops.Sync p = codes "sync" ∷ p ∷ []
 op_words (ops.Read off len) p = codes "read" ∷ p ∷ decimal off ∷ decimal len ∷ []
@@ -41,12 +43,16 @@ read_joined p a b = simp append_assoc
 
 op_joined : (o : Op) (p : List ℕ) → op_text o p ≡ join_with_byte 32 (op_words o p)
 op_joined ops.Create p = refl
+op_joined ops.Open p = refl
+op_joined ops.Size p = refl
 op_joined (ops.Write off text) p = write_joined p (decimal off) (data_text text)
 op_joined ops.Sync p = refl
 op_joined (ops.Read off len) p = read_joined p (decimal off) (decimal len)
 
 after_rank : (r : List ℕ) (o : Op) (p : List ℕ) → join_with_byte 32 (r ∷ op_words o p) ≡ r ++ (32 ∷ join_with_byte 32 (op_words o p))
 after_rank r ops.Create p = refl
+after_rank r ops.Open p = refl
+after_rank r ops.Size p = refl
 after_rank r (ops.Write off text) p = refl
 after_rank r ops.Sync p = refl
 after_rank r (ops.Read off len) p = refl
@@ -103,9 +109,13 @@ at_kind kind name ws o e h = subst (λ k. SaysOp k ws o) (sym ((bytes_eq-Decides
 
 op_is : (kind : List ℕ) (ws : List (List ℕ)) (o : Op) → op_of_words kind ws ≡ Some o → SaysOp kind ws o
 op_is kind [] o e =
-    choice (bytes_eq kind (codes "create")) (Some ops.Create) (cond (bytes_eq kind (codes "sync")) (Some ops.Sync) None) o (SaysOp kind [] o) e
+    choice (bytes_eq kind (codes "create")) _ _ o (SaysOp kind [] o) e
     (λ is found. at_kind kind (codes "create") [] o is (subst (λ k. SaysOp (codes "create") [] k) (same_Some ops.Create o found) (tt, λ p. refl)))
-    (λ rest. let g = guard (bytes_eq kind (codes "sync")) (Some ops.Sync) o rest in at_kind kind (codes "sync") [] o g.0 (subst (λ k. SaysOp (codes "sync") [] k) (same_Some ops.Sync o g.1) (tt, λ p. refl)))
+    (λ e1. choice (bytes_eq kind (codes "open")) _ _ o (SaysOp kind [] o) e1
+    (λ is found. at_kind kind (codes "open") [] o is (subst (λ k. SaysOp (codes "open") [] k) (same_Some ops.Open o found) (tt, λ p. refl)))
+    (λ e2. choice (bytes_eq kind (codes "sync")) _ _ o (SaysOp kind [] o) e2
+    (λ is found. at_kind kind (codes "sync") [] o is (subst (λ k. SaysOp (codes "sync") [] k) (same_Some ops.Sync o found) (tt, λ p. refl)))
+    (λ rest. let g = guard (bytes_eq kind (codes "size")) (Some ops.Size) o rest in at_kind kind (codes "size") [] o g.0 (subst (λ k. SaysOp (codes "size") [] k) (same_Some ops.Size o g.1) (tt, λ p. refl)))))
 op_is kind (a ∷ []) o e = absurd cc
 op_is kind (a ∷ b ∷ []) o e =
     choice (bytes_eq kind (codes "write")) (write_of a b) (cond (bytes_eq kind (codes "read")) (read_of a b) None) o (SaysOp kind (a ∷ b ∷ []) o) e
@@ -162,12 +172,16 @@ data_again (Text bytes) h = rw (h.0, le-leb (length bytes) TRANSFER_LIMIT h.1) r
 
 op_again : (h : Shape) (r p : List ℕ) (o : Op) → IsOp o → line_of_words h (r ∷ op_words o p) ≡ op_line_of h r p (Some o)
 op_again h r p ops.Create i = refl
+op_again h r p ops.Open i = refl
+op_again h r p ops.Size i = refl
 op_again h r p (ops.Write off text) i = rw (text_is_number off i.0, data_again text i.1) refl
 op_again h r p ops.Sync i = refl
 op_again h r p (ops.Read off len) i = rw (text_is_number off i.0, span_again len i.1) refl
 
 words_fit : (p : List ℕ) (o : Op) → IsOp o → IsWord p → AllByRecursion IsWord (op_words o p)
 words_fit p ops.Create i w = (refl, (w, tt))
+words_fit p ops.Open i w = (refl, (w, tt))
+words_fit p ops.Size i w = (refl, (w, tt))
 words_fit p (ops.Write off (Text bytes)) i w = (refl, (w, (is_word-decimal off i.0, (is_word-append (codes "t:") bytes refl (is_word-text bytes i.1.0), tt))))
 words_fit p ops.Sync i w = (refl, (w, tt))
 words_fit p (ops.Read off len) i w = (refl, (w, (is_word-decimal off i.0, (is_word-decimal len (omega (arith, i.1)), tt))))

@@ -69,8 +69,12 @@ fn op_without_numbers(kind: &[u8]) -> Option<Op>
 {
     if kind == b"create".as_slice() {
         Some(Op::Create)
+    } else if kind == b"open".as_slice() {
+        Some(Op::Open)
     } else if kind == b"sync".as_slice() {
         Some(Op::Sync)
+    } else if kind == b"size".as_slice() {
+        Some(Op::Size)
     } else {
         None
     }
