@@ -1,5 +1,7 @@
 -- The event of each operation.
 pub mod Create
+pub mod Open
 pub mod Write
 pub mod Sync
 pub mod Read
+pub mod Size

@@ -13,9 +13,11 @@ use Rattle.fs_script.specs.Front.{front, is_open}
 use Rattle.core_machine.specs.Moment.{Client, Moment, answering, client_of, journal, next_line, with_entry}
 use Rattle.core_machine.specs.Event.{Event, PathNow, known_of}
 use Rattle.core_machine.specs.Events.Create.{create_event}
+use Rattle.core_machine.specs.Events.Open.{open_event}
 use Rattle.core_machine.specs.Events.Write.{write_event}
 use Rattle.core_machine.specs.Events.Sync.{sync_event}
 use Rattle.core_machine.specs.Events.Read.{read_event}
+use Rattle.core_machine.specs.Events.Size.{size_event}
 
 -- whose turn it is
 pub record Turn : Type 0 where
@@ -24,9 +26,11 @@ pub record Turn : Type 0 where
 -- the event of an operation, by what it sees of its path
 abbrev pub event_of : ℕ → PathNow → Op → Event
 event_of chunk w ops.Create = create_event w
+event_of chunk w ops.Open = open_event w
 event_of chunk w (ops.Write off text) = write_event chunk w (record { at = off; bytes = data_bytes text })
 event_of chunk w ops.Sync = sync_event w
 event_of chunk w (ops.Read off len) = read_event w (record { off = off; len = len })
+event_of chunk w ops.Size = size_event w
 
 -- what line n, the operation o, sees of its path, whose journal is J
 abbrev pub path_now : Job → Answering → List ℕ → ℕ → OpLine → PathNow

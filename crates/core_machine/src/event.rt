@@ -6,7 +6,9 @@ ghost use Rattle.core_machine.specs.Follows.{Follows};
 ghost use Rattle.core_machine.specs.Kept.{AreSound};
 
 mod create;
+mod open;
 mod read;
+mod size;
 mod sync;
 mod write;
 
@@ -33,8 +35,10 @@ pub fn answer(
 {
     match &o.op {
         Op::Create => create::create(alloc, n, path, own),
+        Op::Open => Ok(open::open(path, own)),
         Op::Write { off, text } => write::write(s, n, *off, text, path, own),
         Op::Sync => sync::sync(n, path, own),
         Op::Read { off, len } => read::read(alloc, s, *off, *len, path, own),
+        Op::Size => Ok(size::size(s, path, own)),
     }
 }
