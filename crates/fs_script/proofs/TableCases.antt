@@ -52,6 +52,15 @@ module _ (compared : Type 0) where
   read_is_not_readonly : IsInTable compared (view frozen_file []) (ops.Read 0 5) (answers.ReadOnly 1) → ⊥
   read_is_not_readonly row = false≢true row.0
 
+  size_shows_the_flag : IsInTable compared (view frozen_file []) ops.Size (answers.Sized 1 5 true)
+  size_shows_the_flag = (refl, (refl, refl))
+
+  size_is_not_unfrozen : IsInTable compared (view frozen_file []) ops.Size (answers.Sized 1 5 false) → ⊥
+  size_is_not_unfrozen row = false≢true row.1.1
+
+  open_finds_it : IsInTable compared (view frozen_file []) ops.Open (answers.Done 1)
+  open_finds_it = (refl, refl)
+
   unfrozen_is_not_readonly : IsInTable compared (view open_file []) write (answers.ReadOnly 1) → ⊥
   unfrozen_is_not_readonly row = false≢true row.2
 
@@ -65,6 +74,15 @@ module _ (compared : Type 0) where
 
   read_finds_no_file : IsInTable compared (view None []) (ops.Read 0 5) (answers.NoEnt 0)
   read_finds_no_file = (refl, tt, refl)
+
+  open_finds_no_file : IsInTable compared (view None []) ops.Open (answers.NoEnt 1)
+  open_finds_no_file = (refl, tt, refl)
+
+  open_is_not_done : IsInTable compared (view None []) ops.Open (answers.Done 1) → ⊥
+  open_is_not_done row = false≢true row.1
+
+  size_of_nothing_is_not_zero : IsInTable compared (view None []) ops.Size (answers.Sized 1 0 false) → ⊥
+  size_of_nothing_is_not_zero row = row.1
 
   create_wants_no_file : IsInTable compared (view None []) ops.Create (answers.NoEnt 1) → ⊥
   create_wants_no_file row = false≢true row.0
@@ -82,6 +100,12 @@ module _ (compared : Type 0) where
 
   write_wants_a_file : IsInTable compared (view open_file []) write (answers.Exists 1) → ⊥
   write_wants_a_file row = false≢true row.0
+
+  open_is_never_closed : IsInTable compared (view open_file []) ops.Open answers.BadF → ⊥
+  open_is_never_closed row = false≢true row
+
+  read_asks_no_size : IsInTable compared (view open_file []) (ops.Read 0 5) (answers.Sized 1 5 false) → ⊥
+  read_asks_no_size row = false≢true row.0
 
   file_is_found : IsInTable compared (view open_file []) write (answers.NoEnt 1) → ⊥
   file_is_found row = true≢false row.2

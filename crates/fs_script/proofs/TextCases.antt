@@ -100,6 +100,28 @@ line_of_long_read : answer_line (8, answers.Shown 18446744073709551615 4096 (bod
 unfolding digits hex_on_literals
 line_of_long_read = refl
 
+-- what a size tells
+line_of_size : answer_line (9, answers.Sized 2 65 true) ≡ codes "L 9 ok v=2 n=65 frozen=1" ++ line_feed
+unfolding digits
+line_of_size = refl
+
+-- what is answered where files are staged, where logs fill and where devices fail
+line_of_staged : answer_line (4, answers.Staged 2 11 1) ≡ codes "L 4 ok v=2 n=11 slots=1" ++ line_feed
+unfolding digits
+line_of_staged = refl
+
+line_of_long_file : answer_line (4, answers.TooBigAt 3) ≡ codes "L 4 toobig v=3" ++ line_feed
+unfolding digits
+line_of_long_file = refl
+
+line_of_full_log : answer_line (8, answers.NoSpace 1 0) ≡ codes "L 8 nospace need=1 free=0" ++ line_feed
+unfolding digits
+line_of_full_log = refl
+
+line_of_failed_device : answer_line (3, answers.DevFault 0) ≡ codes "L 3 devfault r=0" ++ line_feed
+unfolding digits
+line_of_failed_device = refl
+
 -- a path where nothing was committed has no line after it
 line_of_empty_journal : journal_line (path_a, []) ≡ codes "J /unifyfs/a" ++ line_feed
 line_of_empty_journal = refl
@@ -112,6 +134,11 @@ line_of_no_file = refl
 line_of_frozen_file : file_line (path_a, states.Whole 5 true hello_digest) ≡ codes "F /unifyfs/a n=5 frozen=1 md5=5d41402abc4b2a76b9719d911017c592" ++ line_feed
 unfolding digits hex_on_literals
 line_of_frozen_file = refl
+
+-- a file whose bytes were not read
+line_of_unread_file : file_line (path_a, states.Unread 3 false 0) ≡ codes "F /unifyfs/a n=3 frozen=0 devfault r=0" ++ line_feed
+unfolding digits
+line_of_unread_file = refl
 
 -- ---- outside what is printable, two reports can have one text
 

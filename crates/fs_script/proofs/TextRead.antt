@@ -16,7 +16,7 @@ use Rattle.fs_types.specs.declared.answer.Body.TheVariants as bodies
 use Rattle.fs_types.specs.declared.file_state.FileState.{FileState}
 use Rattle.fs_types.specs.declared.file_state.FileState.TheVariants as states
 use Rattle.fs_script.specs.Report.{Report}
-use Rattle.fs_script.specs.Text.{text, spaced, answer_words, answer_line, body_text, version_word, count_word, frozen_word, entry_text, journal_line, file_words, file_line, path_lines, line_feed}
+use Rattle.fs_script.specs.Text.{text, spaced, answer_words, answer_line, body_text, flag_text, entry_text, journal_line, file_words, file_line, path_lines, line_feed}
 use Rattle.fs_script.specs.Printable.{AreBytes, IsPrintableBody, IsPrintableAnswer, IsPrintableLine, IsPrintableJournal, IsPrintableState, IsPrintableFile, IsPrintable}
 use Rattle.fs_script.proofs.TextParts.{AreAbove, cut_at, cut_at-first, cut_at-none, AreAbove-append, AreAbove-lower, AreAbove-decimal, AreAbove-encode_lower, AreAbove-path}
 use Rattle.fs_script.proofs.TextReader.{number, bytes_of_hex, read_body, read_four, read_answer, read_state, with_answer, with_journal, with_file, with_line, read_lines, read}
@@ -82,7 +82,7 @@ body_above (bodies.Hex bytes) h = AreAbove-encode_lower bytes h.bytes
 body_above (bodies.Md5 digest) h = AreAbove-encode_lower digest h.bytes
 
 -- nor has that of a flag
-flag_above : (flag : Bool) → AreAbove 32 (frozen_word flag)
+flag_above : (flag : Bool) → AreAbove 32 (codes "frozen=" ++ flag_text flag)
 flag_above false = refl
 flag_above true = refl
 
@@ -108,7 +108,7 @@ read_body-text (bodies.Hex bytes) h = ap bodies.Hex (bytes_of_hex-encode_lower b
 read_body-text (bodies.Md5 digest) h = ap bodies.Md5 (bytes_of_hex-encode_lower digest h.bytes)
 
 -- that of a flag says which one it is
-read-flag : (flag : Bool) → (slice_index (frozen_word flag) 7 == 49) ≡ flag
+read-flag : (flag : Bool) → (slice_index (codes "frozen=" ++ flag_text flag) 7 == 49) ≡ flag
 read-flag false = refl
 read-flag true = refl
 
@@ -121,7 +121,7 @@ read_four-body : (v n : List ℕ) (body : Body) → read_four v n (body_text bod
 read_four-body v n (bodies.Hex bytes) = refl
 read_four-body v n (bodies.Md5 digest) = refl
 
-read_four-flag : (v n : List ℕ) (frozen : Bool) → read_four v n (frozen_word frozen) ≡ answers.Sized (number (drop 2 v)) (number (drop 2 n)) frozen
+read_four-flag : (v n : List ℕ) (frozen : Bool) → read_four v n (codes "frozen=" ++ flag_text frozen) ≡ answers.Sized (number (drop 2 v)) (number (drop 2 n)) frozen
 read_four-flag v n false = refl
 read_four-flag v n true = refl
 
@@ -131,9 +131,9 @@ read_answer-words (answers.Done v) h = ap answers.Done (number-decimal v h)
 read_answer-words (answers.Wrote slots) h = ap answers.Wrote (number-decimal slots (small_of_32 slots h))
 read_answer-words (answers.Staged v n slots) h = alike answers.Staged (number-decimal v h.0) (number-decimal n h.1) (number-decimal slots (small_of_32 slots h.2))
 read_answer-words (answers.Sized v n frozen) h =
-    read_four-flag (version_word v) (count_word n) frozen ∙ alike answers.Sized (number-decimal v h.0) (number-decimal n h.1) refl
+    read_four-flag (codes "v=" ++ decimal v) (codes "n=" ++ decimal n) frozen ∙ alike answers.Sized (number-decimal v h.0) (number-decimal n h.1) refl
 read_answer-words (answers.Shown v n body) h =
-    read_four-body (version_word v) (count_word n) body ∙ alike answers.Shown (number-decimal v h.version) (number-decimal n h.count) (read_body-text body h.shown)
+    read_four-body (codes "v=" ++ decimal v) (codes "n=" ++ decimal n) body ∙ alike answers.Shown (number-decimal v h.version) (number-decimal n h.count) (read_body-text body h.shown)
 read_answer-words answers.BadF h = refl
 read_answer-words (answers.Exists v) h = ap answers.Exists (number-decimal v h)
 read_answer-words (answers.NoEnt v) h = ap answers.NoEnt (number-decimal v h)

@@ -27,35 +27,20 @@ abbrev pub flag_text : Bool → List ℕ
 flag_text false = codes "0"
 flag_text true = codes "1"
 
-abbrev pub version_word : ℕ → List ℕ
-version_word v = codes "v=" ++ decimal v
-
-abbrev pub count_word : ℕ → List ℕ
-count_word n = codes "n=" ++ decimal n
-
-abbrev pub frozen_word : Bool → List ℕ
-frozen_word frozen = codes "frozen=" ++ flag_text frozen
-
-abbrev pub slots_word : ℕ → List ℕ
-slots_word slots = codes "slots=" ++ decimal slots
-
-abbrev pub rank_word : ℕ → List ℕ
-rank_word rank = codes "r=" ++ decimal rank
-
 abbrev pub answer_words : Answer → List (List ℕ)
-answer_words (answers.Done v) = codes "ok" ∷ version_word v ∷ []
-answer_words (answers.Wrote slots) = codes "ok" ∷ slots_word slots ∷ []
-answer_words (answers.Staged v n slots) = codes "ok" ∷ version_word v ∷ count_word n ∷ slots_word slots ∷ []
-answer_words (answers.Sized v n frozen) = codes "ok" ∷ version_word v ∷ count_word n ∷ frozen_word frozen ∷ []
-answer_words (answers.Shown v n body) = codes "ok" ∷ version_word v ∷ count_word n ∷ body_text body ∷ []
+answer_words (answers.Done v) = codes "ok" ∷ (codes "v=" ++ decimal v) ∷ []
+answer_words (answers.Wrote slots) = codes "ok" ∷ (codes "slots=" ++ decimal slots) ∷ []
+answer_words (answers.Staged v n slots) = codes "ok" ∷ (codes "v=" ++ decimal v) ∷ (codes "n=" ++ decimal n) ∷ (codes "slots=" ++ decimal slots) ∷ []
+answer_words (answers.Sized v n frozen) = codes "ok" ∷ (codes "v=" ++ decimal v) ∷ (codes "n=" ++ decimal n) ∷ (codes "frozen=" ++ flag_text frozen) ∷ []
+answer_words (answers.Shown v n body) = codes "ok" ∷ (codes "v=" ++ decimal v) ∷ (codes "n=" ++ decimal n) ∷ body_text body ∷ []
 answer_words answers.BadF = codes "badf" ∷ []
-answer_words (answers.Exists v) = codes "exists" ∷ version_word v ∷ []
-answer_words (answers.NoEnt v) = codes "noent" ∷ version_word v ∷ []
-answer_words (answers.ReadOnly v) = codes "readonly" ∷ version_word v ∷ []
+answer_words (answers.Exists v) = codes "exists" ∷ (codes "v=" ++ decimal v) ∷ []
+answer_words (answers.NoEnt v) = codes "noent" ∷ (codes "v=" ++ decimal v) ∷ []
+answer_words (answers.ReadOnly v) = codes "readonly" ∷ (codes "v=" ++ decimal v) ∷ []
 answer_words answers.TooBig = codes "toobig" ∷ []
-answer_words (answers.TooBigAt v) = codes "toobig" ∷ version_word v ∷ []
+answer_words (answers.TooBigAt v) = codes "toobig" ∷ (codes "v=" ++ decimal v) ∷ []
 answer_words (answers.NoSpace need free) = codes "nospace" ∷ (codes "need=" ++ decimal need) ∷ (codes "free=" ++ decimal free) ∷ []
-answer_words (answers.DevFault rank) = codes "devfault" ∷ rank_word rank ∷ []
+answer_words (answers.DevFault rank) = codes "devfault" ∷ (codes "r=" ++ decimal rank) ∷ []
 
 -- the line of an answer
 abbrev pub answer_line : ℕ × Answer → List ℕ
@@ -70,8 +55,8 @@ journal_line j = codes "J " ++ j.0 ++ flat_map entry_text j.1 ++ line_feed
 
 abbrev pub file_words : FileState → List (List ℕ)
 file_words states.Gone = codes "none" ∷ []
-file_words (states.Whole n frozen md5) = count_word n ∷ frozen_word frozen ∷ (codes "md5=" ++ encode_lower md5) ∷ []
-file_words (states.Unread n frozen rank) = count_word n ∷ frozen_word frozen ∷ codes "devfault" ∷ rank_word rank ∷ []
+file_words (states.Whole n frozen md5) = (codes "n=" ++ decimal n) ∷ (codes "frozen=" ++ flag_text frozen) ∷ (codes "md5=" ++ encode_lower md5) ∷ []
+file_words (states.Unread n frozen rank) = (codes "n=" ++ decimal n) ∷ (codes "frozen=" ++ flag_text frozen) ∷ codes "devfault" ∷ (codes "r=" ++ decimal rank) ∷ []
 
 -- the line of a file
 abbrev pub file_line : List ℕ × FileState → List ℕ

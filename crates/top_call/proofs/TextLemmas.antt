@@ -8,7 +8,7 @@ use Rattle.std.proofs.lemmas.List.Elements.{All-head, All-tail}
 use Rattle.fs_types.specs.AnswerList.{answer_at, IsRisingFrom}
 use Rattle.fs_types.specs.declared.answer.Answer.{Answer}
 use Rattle.fs_types.proofs.CallerLemmas.{answer_at-same, answer_at-other, cases_line, answer_at-rising_below}
-use Rattle.fs_script.specs.Text.{path_lines, answer_line, text}
+use Rattle.fs_script.specs.Text.{path_lines, answer_line, spaced, text}
 use Rattle.top_call.specs.JobReport.{path_text, journal_entry, file_entry, report_view}
 use Rattle.top_call.specs.declared.report.JobReport.{JobReport}
 use Rattle.top_call.specs.declared.report.PathReport.{PathReport}
@@ -128,3 +128,13 @@ pub text-of_parts : (r : JobReport)
     → (flat_map answer_line r.answers.list ++ flat_map path_text r.paths.items) ++ codes "end\n"
     ≡ text (report_view r)
 text-of_parts r = rw (← path_lines-map r.paths.items) (simp append_assoc)
+
+-- ---- words that were appended one by one
+
+pub sized_text : (out v n flag : List ℕ) → ((out ++ (codes "ok v=" ++ v)) ++ (codes " n=" ++ n)) ++ (codes " frozen=" ++ flag)
+    ≡ out ++ spaced (codes "ok" ∷ (codes "v=" ++ v) ∷ (codes "n=" ++ n) ∷ (codes "frozen=" ++ flag) ∷ [])
+sized_text out v n flag = simp append_assoc
+
+pub unread_text : (out n flag rank : List ℕ) → ((out ++ (codes " n=" ++ n)) ++ (codes " frozen=" ++ flag)) ++ (codes " devfault r=" ++ rank)
+    ≡ out ++ 32 ∷ spaced ((codes "n=" ++ n) ∷ (codes "frozen=" ++ flag) ∷ codes "devfault" ∷ (codes "r=" ++ rank) ∷ [])
+unread_text out n flag rank = simp append_assoc

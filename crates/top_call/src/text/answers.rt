@@ -2,9 +2,9 @@
 
 ghost use Rattle.std.specs.Prelude.{◌≡◌, ◌++◌, OnOk};
 ghost use Rattle.std.specs.List.{flat_map};
-ghost use Rattle.fs_script.specs.Text.{answer_line, answer_text, body_text};
+ghost use Rattle.fs_script.specs.Text.{answer_line, answer_words, body_text, spaced};
 
-use super::parts::{append_hex, append_number};
+use super::parts::{append_flag, append_hex, append_number};
 use fs_types::{Answer, Answers, Body, LineNo, Want};
 use std::alloc::Global;
 
@@ -18,11 +18,21 @@ fn append_body(alloc: Global, out: &mut Vec<u8>, body: &Body) -> Result<(), Want
 }
 
 fn append_answer(alloc: Global, out: &mut Vec<u8>, answer: &Answer) -> Result<(), Want>
-    ensures { OnOk result (out.new.items ≡ out.old.items ++ answer_text answer.now) }
+    ensures { OnOk result (out.new.items ≡ out.old.items ++ spaced (answer_words answer.now)) }
 {
     match answer {
         Answer::Done { v } => append_number(alloc, out, b"ok v=", v.0)?,
         Answer::Wrote { slots } => append_number(alloc, out, b"ok slots=", u64::from(*slots))?,
+        Answer::Staged { v, n, slots } => {
+            append_number(alloc, out, b"ok v=", v.0)?;
+            append_number(alloc, out, b" n=", *n)?;
+            append_number(alloc, out, b" slots=", u64::from(*slots))?;
+        }
+        Answer::Sized { v, n, frozen } => {
+            append_number(alloc, out, b"ok v=", v.0)?;
+            append_number(alloc, out, b" n=", *n)?;
+            append_flag(out, *frozen)?;
+        }
         Answer::Shown { v, n, body } => {
             append_number(alloc, out, b"ok v=", v.0)?;
             append_number(alloc, out, b" n=", *n)?;
@@ -34,6 +44,14 @@ fn append_answer(alloc: Global, out: &mut Vec<u8>, answer: &Answer) -> Result<()
         Answer::NoEnt { v } => append_number(alloc, out, b"noent v=", v.0)?,
         Answer::ReadOnly { v } => append_number(alloc, out, b"readonly v=", v.0)?,
         Answer::TooBig => out.extend_from_slice(b"toobig")?,
+        Answer::TooBigAt { v } => append_number(alloc, out, b"toobig v=", v.0)?,
+        Answer::NoSpace { need, free } => {
+            append_number(alloc, out, b"nospace need=", *need)?;
+            append_number(alloc, out, b" free=", *free)?;
+        }
+        Answer::DevFault { rank } => {
+            append_number(alloc, out, b"devfault r=", u64::from(rank.0))?;
+        }
     }
     Ok(())
 }

@@ -1,8 +1,9 @@
 //! Numbers and bytes as texts.
 
-ghost use Rattle.std.specs.Prelude.{◌≡◌, ◌++◌, OnOk};
+ghost use Rattle.std.specs.Prelude.{◌≡◌, [], ◌∷◌, ◌++◌, codes, OnOk};
 ghost use Rattle.std.specs.Fmt.{decimal};
 ghost use Rattle.hex.specs.Hex.{encode_lower};
+ghost use Rattle.fs_script.specs.Text.{flag_text};
 
 use fs_types::Want;
 use std::alloc::Global;
@@ -24,5 +25,20 @@ pub fn append_hex(alloc: Global, out: &mut Vec<u8>, name: &[u8], bytes: &[u8]) -
     out.extend_from_slice(name)?;
     let digits = hex::encode(alloc, bytes)?;
     out.extend_from_slice(digits.as_bytes())?;
+    Ok(())
+}
+
+fn flag(frozen: bool) -> u8
+    ensures { flag_text frozen ≡ result ∷ [] }
+{
+    if frozen { b'1' } else { b'0' }
+}
+
+/// Appends, after a space, whether a file is frozen.
+pub fn append_flag(out: &mut Vec<u8>, frozen: bool) -> Result<(), Want>
+    ensures { OnOk result (out.new.items ≡ out.old.items ++ (codes " frozen=" ++ flag_text frozen)) }
+{
+    out.extend_from_slice(b" frozen=")?;
+    out.push(flag(frozen))?;
     Ok(())
 }

@@ -1,11 +1,11 @@
 //! The lines of journals and files.
 
-ghost use Rattle.std.specs.Prelude.{◌≡◌, ◌∷◌, ◌++◌, [], OnOk};
+ghost use Rattle.std.specs.Prelude.{◌≡◌, ◌∷◌, ◌++◌, OnOk};
 ghost use Rattle.std.specs.List.{flat_map};
-ghost use Rattle.fs_script.specs.Text.{entry_text, file_line, file_text, flag_text, journal_line};
+ghost use Rattle.fs_script.specs.Text.{entry_text, file_line, file_words, journal_line, spaced};
 ghost use Rattle.top_call.specs.JobReport.{path_text};
 
-use super::parts::{append_hex, append_number};
+use super::parts::{append_flag, append_hex, append_number};
 use crate::report::PathReport;
 use fs_types::{FileState, LineNo, Path, Want};
 use std::alloc::Global;
@@ -35,24 +35,22 @@ fn append_journal(
 }
 
 fn append_state(alloc: Global, out: &mut Vec<u8>, state: &FileState) -> Result<(), Want>
-    ensures { OnOk result (out.new.items ≡ out.old.items ++ file_text state.now) }
+    ensures { OnOk result (out.new.items ≡ out.old.items ++ 32 ∷ spaced (file_words state.now)) }
 {
     match state {
         FileState::Gone => out.extend_from_slice(b" none")?,
         FileState::Whole { n, frozen, md5 } => {
             append_number(alloc, out, b" n=", *n)?;
-            out.extend_from_slice(b" frozen=")?;
-            out.push(flag(*frozen))?;
+            append_flag(out, *frozen)?;
             append_hex(alloc, out, b" md5=", &md5.0)?;
+        }
+        FileState::Unread { n, frozen, rank } => {
+            append_number(alloc, out, b" n=", *n)?;
+            append_flag(out, *frozen)?;
+            append_number(alloc, out, b" devfault r=", u64::from(rank.0))?;
         }
     }
     Ok(())
-}
-
-fn flag(frozen: bool) -> u8
-    ensures { flag_text frozen ≡ result ∷ [] }
-{
-    if frozen { b'1' } else { b'0' }
 }
 
 fn append_file(alloc: Global, out: &mut Vec<u8>, path: &Path, state: &FileState) -> Result<(), Want>

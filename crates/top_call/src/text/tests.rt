@@ -1,14 +1,33 @@
 use super::report_text;
 use crate::report::{JobReport, PathReport};
-use fs_types::{Answer, Answers, Digest16, FileState, LineNo, Path, Version};
+use fs_types::{Answer, Answers, Digest16, FileState, LineNo, Path, Rank, Version};
 use std::test::Fail;
 
 // These stand in no report of a job yet. The tests of whole jobs show the other rows.
 #[test]
-fn missing_and_frozen_files_are_printed(rt: HostRuntime) -> Result<(), Fail> {
+fn answers_and_files_of_later_jobs_are_printed(rt: HostRuntime) -> Result<(), Fail> {
     let alloc = rt.alloc();
     let mut answers = Answers::new(alloc, 12)?;
-    answers.set(LineNo(11), Answer::NoEnt { v: Version(12) });
+    answers.set(
+        LineNo(3),
+        Answer::Staged {
+            v: Version(2),
+            n: 11,
+            slots: 1,
+        },
+    );
+    answers.set(
+        LineNo(4),
+        Answer::Sized {
+            v: Version(2),
+            n: 0,
+            frozen: true,
+        },
+    );
+    answers.set(LineNo(5), Answer::TooBigAt { v: Version(3) });
+    answers.set(LineNo(6), Answer::NoSpace { need: 2, free: 1 });
+    answers.set(LineNo(7), Answer::DevFault { rank: Rank(63) });
+    answers.set(LineNo(8), Answer::ReadOnly { v: Version(4) });
     let frozen = PathReport {
         path: Path::read(alloc, b"/unifyfs/b")?,
         journal: Vec::new(alloc),
@@ -18,13 +37,29 @@ fn missing_and_frozen_files_are_printed(rt: HostRuntime) -> Result<(), Fail> {
             md5: Digest16([0xa7; 16]),
         },
     };
+    let unread = PathReport {
+        path: Path::read(alloc, b"/unifyfs/c")?,
+        journal: Vec::new(alloc),
+        state: FileState::Unread {
+            n: 3,
+            frozen: false,
+            rank: Rank(0),
+        },
+    };
     let report = JobReport {
         answers,
-        paths: vec![in alloc; frozen]?,
+        paths: vec![in alloc; frozen, unread]?,
     };
-    let text = b"L 11 noent v=12
+    let text = b"L 3 ok v=2 n=11 slots=1
+L 4 ok v=2 n=0 frozen=1
+L 5 toobig v=3
+L 6 nospace need=2 free=1
+L 7 devfault r=63
+L 8 readonly v=4
 J /unifyfs/b
 F /unifyfs/b n=5 frozen=1 md5=a7a7a7a7a7a7a7a7a7a7a7a7a7a7a7a7
+J /unifyfs/c
+F /unifyfs/c n=3 frozen=0 devfault r=0
 end
 "
         .as_slice();

@@ -46,6 +46,10 @@ const EACH_ROW: &[u8] = b"unifyfs 1 servers=1 clients=1 chunk=64 shmem=4 spill=0
 0 read /unifyfs/a 0 32
 0 read /unifyfs/a 0 33
 0 read /unifyfs/a 65 1
+0 size /unifyfs/a
+0 open /unifyfs/a
+0 size /unifyfs/b
+0 open /unifyfs/b
 ";
 
 const EACH_ROW_REPORT: &[u8] = b"L 2 badf
@@ -58,6 +62,10 @@ L 8 ok v=2
 L 9 ok v=2 n=32 hex=6161616161616161616161616161616161616161616161616161616161616161
 L 10 ok v=2 n=33 md5=b4f13cb081e412f44e99742cb128a1a5
 L 11 ok v=2 n=0 hex=
+L 12 ok v=2 n=65 frozen=0
+L 13 ok v=2
+L 14 badf
+L 15 noent v=0
 J /unifyfs/a 3 8
 F /unifyfs/a n=65 frozen=0 md5=c743a45e0d2e6a95cb859adae0248435
 J /unifyfs/b
