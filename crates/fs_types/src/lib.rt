@@ -1,5 +1,5 @@
-//! The names and plain data that every layer of the file system speaks of: ranks, lines, versions,
-//! paths, answers and statuses. It touches nothing outside memory.
+//! The names and plain data that every layer of the file system speaks of: ranks, servers, lines,
+//! versions, paths, answers and statuses. It touches nothing outside memory.
 #![tactic(auto)]
 
 mod answer;
@@ -25,7 +25,7 @@ pub use laws::{
 };
 pub use limits::{HEX_LIMIT, LONGEST_FILE, LONGEST_PATH};
 pub use name::{Name, NameFault};
-pub use number::{LineNo, Rank, Version};
+pub use number::{LineNo, Rank, ServerNo, Version};
 pub use path::{Path, PathFault};
 pub use short_bytes::ShortBytes;
 pub use status::Status;

@@ -1,4 +1,4 @@
-//! The numbers that name clients, lines and versions. A clause sees each as its number.
+//! The numbers that name clients, servers, lines and versions. A clause sees each as its number.
 
 use std::marker::Model;
 
@@ -7,6 +7,20 @@ use std::marker::Model;
 pub struct Rank(pub u32);
 
 impl Model for Rank {
+    ghost use Rattle.std.specs.Prelude.{ℕ};
+
+    ghost Value = { ℕ };
+
+    ghost view = { λ a. a.0 };
+
+    ghost inverse = { λ n. record { 0 = n } };
+}
+
+/// A server of the job, from 0 on.
+#[derive(Clone, Copy, Debug, PartialEq, Eq, PartialOrd, Ord, Hash)]
+pub struct ServerNo(pub u32);
+
+impl Model for ServerNo {
     ghost use Rattle.std.specs.Prelude.{ℕ};
 
     ghost Value = { ℕ };

@@ -2,6 +2,8 @@ pub mod ToldLemmas
 mod TextLemmas
 mod JobReports
 mod Runs
+mod PickLemmas
+mod PickCases
 mod WordsCases
 mod UsageAndRefusalCases
 mod Outputs

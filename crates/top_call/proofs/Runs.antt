@@ -1,18 +1,22 @@
 -- Runs that go on by one event, and the journals that they leave.
-use Rattle.std.proofs.Common.{◌≡◌, ℕ, zero, suc, false, cond, List, [], ◌∷◌, ◌++◌, map, Option, Some, None, refl, sym, ap, subst, ◌∙◌}
+use Rattle.std.proofs.Common.{◌≡◌, ℕ, zero, suc, ◌%◌, arith, false, cond, List, [], ◌∷◌, ◌++◌, length, map, Option, Some, None, refl, sym, ap, subst, ◌∙◌}
+use Rattle.std.specs.Prelude.{max, unwrap_or}
 use Rattle.std.specs.List.{slice_get, Contains}
 use Rattle.std.specs.Str.{bytes_eq}
-use Rattle.std.proofs.lemmas.Option.{same_Some}
+use Rattle.std.proofs.lemmas.Option.{same_Some, slice_get_within, get_or_from_slice_get}
 use Rattle.fs_types.specs.PathText.{IsPath}
 use Rattle.fs_script.specs.Grammar.{IsJob}
-use Rattle.fs_script.specs.Report.{AreRising, journal_of}
+use Rattle.fs_script.specs.Report.{AreRising, journal_of, IsLegal}
 use Rattle.fs_script.proofs.CallerLemmas.{IsOpLine-from_job}
 use Rattle.core_machine.proofs.CallerLemmas.{not_among, same_bytes, other_bytes}
 use Rattle.fs_script.specs.declared.line.OpLine.{OpLine}
 use Rattle.fs_script.specs.Job.{Job, op_at, Names}
-use Rattle.core_machine.specs.Moment.{Moment, ready, next_line}
+use Rattle.core_machine.specs.Moment.{Moment, IsFirst, ready, next_line}
 use Rattle.core_machine.specs.Step.{Turn, step, step_at, step_line}
 use Rattle.core_machine.specs.LegalSoFar.{HasClients, Reaches}
+use Rattle.core_machine.specs.RunLaws.{RunsAreLegal}
+use Rattle.core_machine.specs.MomentReport.{report_of}
+use Rattle.top_call.specs.PickedRun.{pick_at, picked, after_turn_of, moment_after}
 
 -- a run and one more turn
 pub Reaches-push : (m n : Moment) (turns : List Turn) (t : Turn) → Reaches m turns n → Contains (ready n) t.client → Reaches m (turns ++ t ∷ []) (step n t)
@@ -32,6 +36,38 @@ pub Reaches-unspent : (m n : Moment) (turns : List Turn) → Reaches m turns n �
 Reaches-unspent m n [] run unspent = ap (λ (k : Moment). k.spent) (sym run) ∙ unspent
 Reaches-unspent m n (t ∷ turns) run unspent = Reaches-unspent (step m t) n turns run.1 (unspent_at m t.client (next_line m t.client) unspent)
 
+-- the operations of a job are of its clients
+pub HasClients-job : (s : Job) → IsJob s → HasClients s
+HasClients-job s job n o is = (IsOpLine-from_job s n o job is).rank
+
+-- a run and one more turn, if a client has it
+Reaches-turn : (m n : Moment) (o : Option ℕ) (i : ℕ) → slice_get (ready n) i ≡ o → (turns : List Turn) × Reaches m turns n → (turns : List Turn) × Reaches m turns (after_turn_of n o)
+Reaches-turn m n None i at run = run
+Reaches-turn m n (Some r) i at run =
+    let t : Turn = record { client = r } in
+    (run.0 ++ t ∷ [], Reaches-push m n run.0 t run.1 (i, slice_get_within (ready n) i r at, get_or_from_slice_get (ready n) i r r at))
+
+-- the moments of a run under picks are reached by some turns
+pub Reaches-moment_after : (picks : List ℕ) (m : Moment) (k : ℕ) → (turns : List Turn) × Reaches m turns (moment_after picks m k)
+Reaches-moment_after picks m zero = ([], refl)
+Reaches-moment_after picks m (suc k) =
+    let n = moment_after picks m k in
+    Reaches-turn m n (picked (pick_at picks k) (ready n)) (pick_at picks k % length (ready n)) refl (Reaches-moment_after picks m k)
+
+-- so what such a run reports at its end is legal
+pub IsLegal-moment_after : (picks told : List ℕ) (s : Job) (m n : Moment) (k : ℕ) → RunsAreLegal → IsJob s → IsFirst s m → n ≡ moment_after picks m k → ready n ≡ [] → IsLegal s (report_of n) told
+IsLegal-moment_after picks told s m n k legal job first is ended =
+    let run = Reaches-moment_after picks m k in
+    let reaches = subst (λ (x : Moment). Reaches m run.0 x) (sym is) run.1 in
+    legal told s m n run.0 (HasClients-job s job) first reaches ended (Reaches-unspent m n run.0 reaches first.spent)
+
+-- ---- the picks, one more at a time
+
+-- the pick at the place that the code has come to
+pub pick_at-place : (picks : List ℕ) (k : ℕ) → unwrap_or (slice_get picks (k % max (length picks) 1)) 0 ≡ pick_at picks k
+pick_at-place [] k = refl
+pick_at-place (p ∷ ps) k = ap (λ n. unwrap_or (slice_get (p ∷ ps) (k % n)) 0) (omega arith)
+
 -- ---- what is reported of each path
 
 -- the journal of the path at a place is the one that stands there
@@ -48,7 +84,3 @@ entry-at (k ∷ ks) (suc i) p j rising at is =
 -- the paths that a job names are in the grammar
 pub IsPath-named : (s : Job) (p : List ℕ) → IsJob s → Names s p → IsPath p
 IsPath-named s p job named = subst IsPath named.on (IsOpLine-from_job s named.line named.op job named.is).path
-
--- and its operations are of its clients
-pub HasClients-job : (s : Job) → IsJob s → HasClients s
-HasClients-job s job n o is = (IsOpLine-from_job s n o job is).rank

@@ -9,18 +9,23 @@ use Rattle.fs_script.specs.Reading.{job_of}
 use Rattle.fs_script.specs.Report.{Report, IsLegal}
 use Rattle.fs_script.specs.Text.{text}
 use Rattle.top_call.specs.UsageAndRefusals.{usage_line, refusal_line}
+use Rattle.top_call.specs.Picks.{first_picks}
+use Rattle.top_call.specs.PickedRun.{IsReportUnder}
+use Rattle.top_call.specs.declared.picks.TheConstants.{PICK_COUNT}
 use Rattle.top_call.specs.declared.words.Command.{Command}
 use Rattle.top_call.specs.declared.words.Command.TheVariants.{Sim}
 use Rattle.top_call.specs.Words.{command_of}
 
--- the input is the script of a job, and what was written is the text of a report that is legal for
--- it, whichever clients' devices tell their bytes
-pub record IsReportOf (input written : List ℕ) : Type 0 where
+-- the input is the script of a job, and what was written is the text of a report: that of the job's
+-- run under the first picks of the seed, and legal for the job, whichever clients' devices tell
+-- their bytes
+pub record IsReportOf (seed : ℕ) (input written : List ℕ) : Type 0 where
   pub job : Job
   pub report : Report
   pub script : IsScript input job
   pub text : written ≡ text report
   pub legal : (told : List ℕ) → IsLegal job report told
+  pub run : IsReportUnder (first_picks seed PICK_COUNT) job report
 
 -- the input is no script, and what was written is the line of its first fault
 pub record IsRefusalOf (input written : List ℕ) : Type 0 where
@@ -28,18 +33,18 @@ pub record IsRefusalOf (input written : List ℕ) : Type 0 where
   pub first : job_of input ≡ Err fault
   pub line : written ≡ refusal_line fault
 
--- the text of a simulated job that ended so
-abbrev pub IsSimAnswer : List ℕ → Status → List ℕ → Type 0
-IsSimAnswer input statuses.Done written = IsReportOf input written
-IsSimAnswer input statuses.Refused written = IsRefusalOf input written
-IsSimAnswer input statuses.Usage written = ⊥
-IsSimAnswer input statuses.ReadFault written = ⊥
-IsSimAnswer input statuses.WriteFault written = ⊥
-IsSimAnswer input statuses.Memory written = ⊥
+-- the text of a job that was simulated by a seed and ended so
+abbrev pub IsSimAnswer : ℕ → List ℕ → Status → List ℕ → Type 0
+IsSimAnswer seed input statuses.Done written = IsReportOf seed input written
+IsSimAnswer seed input statuses.Refused written = IsRefusalOf input written
+IsSimAnswer seed input statuses.Usage written = ⊥
+IsSimAnswer seed input statuses.ReadFault written = ⊥
+IsSimAnswer seed input statuses.WriteFault written = ⊥
+IsSimAnswer seed input statuses.Memory written = ⊥
 
 abbrev pub IsCommandAnswer : Option Command → List ℕ → Status → List ℕ → Type 0
 IsCommandAnswer None input status written = (status ≡ statuses.Usage) × (written ≡ usage_line)
-IsCommandAnswer (Some (Sim seed)) input status written = IsSimAnswer input status written
+IsCommandAnswer (Some (Sim seed)) input status written = IsSimAnswer seed input status written
 
 -- the text that goes with a status, for these words and this input
 abbrev pub IsAnswer : List (List ℕ) → List ℕ → Status → List ℕ → Type 0

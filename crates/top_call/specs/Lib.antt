@@ -7,6 +7,8 @@ pub mod InMemory
 pub mod SpillDev
 pub mod Host
 pub mod JobReport
+pub mod Picks
+pub mod PickedRun
 pub mod UsageAndRefusals
 pub mod Words
 pub mod CommandAnswer

@@ -44,7 +44,7 @@ pub fn top_calm<S: Source, K: Sink, H: Host>(
 {
     match read_command(words) {
         None => write_answer(out, Status::Usage, usage_text()),
-        Some(Command::Sim { .. }) => match sim(alloc, input) {
+        Some(Command::Sim { seed }) => match sim(alloc, seed, input) {
             Ok(reply) => write_answer(out, reply.status, &reply.text),
             Err(SimFault::ReadFault) => Status::ReadFault,
             Err(SimFault::Memory) => Status::Memory,

@@ -4,6 +4,7 @@
 
 mod call;
 mod outside;
+mod picks;
 mod refusal;
 mod report;
 mod run;

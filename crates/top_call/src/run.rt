@@ -1,27 +1,47 @@
 //! Running a job to its end, and what it reports then.
 
-ghost use Rattle.std.specs.Prelude.{◌≡◌, ℕ, ◌<◌, List, [], length, map, slice_get, Some, Contains, IfOk, OnOk};
+ghost use Rattle.std.specs.Prelude.{◌≡◌, ℕ, ◌<◌, List, [], length, map, slice_get, unwrap_or, Some, Contains, IfNone, IfOk, OnOk};
 ghost use Rattle.fs_types.specs.PathText.{IsPath};
 ghost use Rattle.fs_script.specs.Report.{AreRising, IsLegal, file_state_of};
 ghost use Rattle.core_machine.specs.Moment.{ready, file_now};
-ghost use Rattle.core_machine.specs.Step.{Turn};
-ghost use Rattle.core_machine.specs.LegalSoFar.{Reaches};
 ghost use Rattle.core_machine.specs.MomentReport.{report_of};
 ghost use Rattle.top_call.specs.JobReport.{report_view, journal_entry, file_entry};
+ghost use Rattle.top_call.specs.PickedRun.{picked, moment_after, IsReportUnder};
 
 use crate::report::{JobReport, PathReport};
 use core_machine::{Core, runs_are_legal};
 use fs_script::Script;
-use fs_types::{Path, PathFault, Want};
+use fs_types::{Path, PathFault, Rank, Want};
 use std::alloc::Global;
 
-// Gives the first client that is ready its turn until none is ready.
-fn run_to_end(core: &mut Core<'_>) -> Result<(), Want>
-    ensures run { OnOk result ((turns : List Turn) × Reaches core.old turns core.new) }
+// The pick at a place; 0 where there are none.
+fn pick_in(picks: &[u32], at: usize) -> u32
+    ensures { result ≡ unwrap_or (slice_get picks.now at) 0 }
+{
+    picks.get(at).copied().unwrap_or(0)
+}
+
+// The client that a pick chooses of those that are ready, where one is.
+fn picked_client(ready: &[Rank], pick: u32) -> Option<Rank>
+    ensures picked { result ≡ picked pick ready.now }
+    ensures none { IfNone result (ready.now ≡ []) }
+{
+    match ready {
+        [] => None,
+        _ => Some(ready[pick as usize % ready.len()]),
+    }
+}
+
+// Gives each turn to the client that the next pick chooses until none is ready. The picks go round.
+fn run_to_end(core: &mut Core<'_>, picks: &[u32]) -> Result<(), Want>
+    ensures run { OnOk result
+        ((events : ℕ) × (core.new ≡ moment_after picks.now core.old events)) }
     ensures ended { OnOk result (ready core.new ≡ []) }
 {
-    while let Some(r) = core.ready().first().copied() {
+    let mut at = 0;
+    while let Some(r) = picked_client(core.ready(), pick_in(picks, at)) {
         core.step(r)?;
+        at = (at + 1) % picks.len().max(1);
     }
     Ok(())
 }
@@ -73,12 +93,13 @@ fn path_reports(alloc: Global, core: &mut Core<'_>) -> Result<Vec<PathReport>, W
     Ok(reports)
 }
 
-/// Runs a job to its end, and reports it.
-pub fn simulate(alloc: Global, s: &Script) -> Result<JobReport, Want>
-    ensures { IfOk result (λ r. (told : List ℕ) → IsLegal s.now (report_view r) told) }
+/// Runs a job to its end under these picks, and reports it.
+pub fn simulate(alloc: Global, s: &Script, picks: &[u32]) -> Result<JobReport, Want>
+    ensures legal { IfOk result (λ r. (told : List ℕ) → IsLegal s.now (report_view r) told) }
+    ensures run { IfOk result (λ r. IsReportUnder picks.now s.now (report_view r)) }
 {
     let mut core = Core::new(alloc, s)?;
-    run_to_end(&mut core)?;
+    run_to_end(&mut core, picks)?;
     runs_are_legal();
     let paths = path_reports(alloc, &mut core)?;
     Ok(JobReport {
@@ -86,3 +107,6 @@ pub fn simulate(alloc: Global, s: &Script) -> Result<JobReport, Want>
         paths,
     })
 }
+
+#[cfg(test)]
+mod tests;

@@ -7,9 +7,14 @@ ghost use Rattle.top_call.specs.Faults.{HasRisen};
 ghost use Rattle.top_call.specs.Told.{IsAtEnd};
 ghost use Rattle.top_call.specs.UsageAndRefusals.{refusal_line};
 ghost use Rattle.top_call.specs.CommandAnswer.{IsSimAnswer};
+ghost use Rattle.top_call.specs.JobReport.{report_view};
+ghost use Rattle.top_call.specs.Picks.{first_picks};
+ghost use Rattle.top_call.specs.PickedRun.{IsReportUnder};
 
 use crate::outside::{ReadAllNo, Source, read_all};
+use crate::picks::{PICK_COUNT, picks_of};
 use crate::refusal::refusal_text;
+use crate::report::JobReport;
 use crate::run::simulate;
 use crate::text::report_text;
 use fs_script::limits::SCRIPT_LIMIT;
@@ -36,15 +41,26 @@ pub enum SimFault {
     Memory,
 }
 
-// The report of a script's job, as a text.
-fn report(alloc: Global, s: &Script) -> Result<Reply, SimFault>
+// What a script's job reports where it is run under the picks of a seed.
+fn run(alloc: Global, seed: u64, s: &Script) -> Result<JobReport, Want>
+    ensures legal { IfOk result (λ r. (told : List ℕ) → IsLegal s.now (report_view r) told) }
+    ensures run { IfOk result
+        (λ r. IsReportUnder (first_picks seed PICK_COUNT) s.now (report_view r)) }
+{
+    let picks = picks_of(alloc, seed, PICK_COUNT)?;
+    simulate(alloc, s, &picks)
+}
+
+// That report, as a text.
+fn report(alloc: Global, seed: u64, s: &Script) -> Result<Reply, SimFault>
     ensures status { IfOk result (λ r. r.status ≡ Status.Done) }
     ensures report { IfOk result
         (λ r. (report : Report) × (r.text.items ≡ text report)
-        × ((told : List ℕ) → IsLegal s.now report told)) }
+        × ((told : List ℕ) → IsLegal s.now report told)
+        × IsReportUnder (first_picks seed PICK_COUNT) s.now report) }
     ensures memory { result ≢ Err SimFault.ReadFault }
 {
-    let Ok(report) = simulate(alloc, s) else {
+    let Ok(report) = run(alloc, seed, s) else {
         return Err(SimFault::Memory);
     };
     match report_text(alloc, &report) {
@@ -72,21 +88,21 @@ fn refusal(alloc: Global, fault: ScriptFault) -> Result<Reply, SimFault>
 }
 
 // The answer to a script's bytes.
-fn answer(alloc: Global, bytes: &[u8]) -> Result<Reply, SimFault>
-    ensures answer { IfOk result (λ r. IsSimAnswer bytes.now r.status r.text.items) }
+fn answer(alloc: Global, seed: u64, bytes: &[u8]) -> Result<Reply, SimFault>
+    ensures answer { IfOk result (λ r. IsSimAnswer seed bytes.now r.status r.text.items) }
     ensures memory { result ≢ Err SimFault.ReadFault }
 {
     match read_script(alloc, bytes) {
-        Ok(script) => report(alloc, &script),
+        Ok(script) => report(alloc, seed, &script),
         Err(ScriptFault::Want) => Err(SimFault::Memory),
         Err(fault) => refusal(alloc, fault),
     }
 }
 
-/// Simulates the job whose script is the input.
-pub fn sim<S: Source>(alloc: Global, input: &mut S) -> Result<Reply, SimFault>
+/// Simulates the job whose script is the input, under the picks of a seed.
+pub fn sim<S: Source>(alloc: Global, seed: u64, input: &mut S) -> Result<Reply, SimFault>
     ensures answer { IfOk result
-        (λ r. IfSome (S.left input.old) (λ bytes. IsSimAnswer bytes r.status r.text.items)) }
+        (λ r. IfSome (S.left input.old) (λ bytes. IsSimAnswer seed bytes r.status r.text.items)) }
     ensures status { IfOk result (λ r. (r.status ≡ Status.Done) ⊎ (r.status ≡ Status.Refused)) }
     ensures to_end { IfOk result (λ r. r.status ≡ Status.Done → IsAtEnd (S.left input.new)) }
     ensures risen { IsErrOf result SimFault.ReadFault
@@ -94,7 +110,7 @@ pub fn sim<S: Source>(alloc: Global, input: &mut S) -> Result<Reply, SimFault>
     ensures calm { result ≢ Err SimFault.ReadFault → S.faults input.new ≡ S.faults input.old }
 {
     match read_all(alloc, input, SCRIPT_LIMIT) {
-        Ok(bytes) => answer(alloc, &bytes),
+        Ok(bytes) => answer(alloc, seed, &bytes),
         Err(ReadAllNo::TooLong) => refusal(alloc, ScriptFault::TooLong),
         Err(ReadAllNo::ReadFault) => Err(SimFault::ReadFault),
         Err(ReadAllNo::Want) => Err(SimFault::Memory),

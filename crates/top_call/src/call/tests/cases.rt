@@ -14,6 +14,8 @@ pub type Case = (
 
 const SIM: &[&str] = &["sim", "0"];
 
+const SIM_BY_THE_LAST_SEED: &[&str] = &["sim", "18446744073709551615"];
+
 /// A job of five lines, the last without its line feed.
 pub const FIVE_LINES: &[u8] = b"unifyfs 1 servers=1 clients=1 chunk=64 shmem=4 spill=0
 0 create /unifyfs/a
@@ -105,8 +107,15 @@ const LINE_REFUSED: &[u8] = b"refused line=2 reason=op\n";
 
 const USAGE: &[u8] = b"usage: unifyfs sim SEED | run | check NAME | load N | stage NAME\n";
 
-pub const CASES: [Case; 14] = [
+pub const CASES: [Case; 15] = [
     (SIM, FIVE_LINES, 1, Status::Done, FIVE_LINES_REPORT),
+    (
+        SIM_BY_THE_LAST_SEED,
+        FIVE_LINES,
+        1,
+        Status::Done,
+        FIVE_LINES_REPORT,
+    ),
     (SIM, EACH_ROW, 1, Status::Done, EACH_ROW_REPORT),
     (SIM, LAST_PLACE, 1, Status::Done, LAST_PLACE_REPORT),
     (SIM, NO_OPERATION, 1, Status::Done, b"end\n"),

@@ -1,0 +1,35 @@
+-- The run of a job under picks: whose turn each event is, the moments that the run comes to, and its report.
+use Rattle.std.specs.Prelude.{◌≡◌, ℕ, zero, suc, ◌%◌, List, [], length, unwrap_or, Option, Some, None}
+use Rattle.std.specs.List.{slice_get}
+use Rattle.fs_script.specs.Job.{Job}
+use Rattle.fs_script.specs.Report.{Report}
+use Rattle.core_machine.specs.Moment.{Moment, IsFirst, ready}
+use Rattle.core_machine.specs.Step.{step}
+use Rattle.core_machine.specs.MomentReport.{report_of}
+
+-- the pick of event k, from 0 on: the picks go round, and where there are none it is 0
+abbrev pub pick_at : List ℕ → ℕ → ℕ
+pick_at picks k = unwrap_or (slice_get picks (k % length picks)) 0
+
+-- of the clients that are ready, the one at the place of this pick modulo their number; none where none is ready
+abbrev pub picked : ℕ → List ℕ → Option ℕ
+picked pick clients = slice_get clients (pick % length clients)
+
+-- the moment after the turn of a client; where no client has it the run stays
+abbrev pub after_turn_of : Moment → Option ℕ → Moment
+after_turn_of m None = m
+after_turn_of m (Some r) = step m (record { client = r })
+
+-- the moment after k events of the run that begins at m, each of the client that its pick chooses of those that are ready then
+abbrev pub moment_after : List ℕ → Moment → ℕ → Moment
+moment_after picks m zero = m
+moment_after picks m (suc k) =
+    let now = moment_after picks m k in after_turn_of now (picked (pick_at picks k) (ready now))
+
+-- the job was run under these picks from its first moment until no client was ready, and this is the report of the moment then
+pub record IsReportUnder (picks : List ℕ) (s : Job) (report : Report) : Type 0 where
+  pub first : Moment
+  pub begins : IsFirst s first
+  pub events : ℕ
+  pub ended : ready (moment_after picks first events) ≡ []
+  pub reported : report ≡ report_of (moment_after picks first events)
