@@ -2,6 +2,8 @@
 
 -- a job within the limits: what each of its operations is, and that reading finds it
 pub use Rattle.fs_script.proofs.Jobs.{IsOpLine-from_job, op_at-within}
+-- what one write brings is no more than one line may move
+pub use Rattle.fs_script.proofs.Jobs.{length-data, length-payload}
 pub use Rattle.fs_script.proofs.Reading.Scripts.{script_is_job}
 -- phases rise with the lines, and each client's program has its operations, rising
 pub use Rattle.fs_script.proofs.Fronts.{phase-rises}

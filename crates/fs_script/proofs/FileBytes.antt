@@ -3,6 +3,7 @@ use Rattle.std.proofs.Common.{◌≡◌, ℕ, ◌<◌, ◌≤◌, true, List, []
 use Rattle.std.proofs.lemmas.Bool.{cond_both}
 use Rattle.std.proofs.lemmas.Bool.Decides.{nat_tests}
 use Rattle.std.proofs.lemmas.List.Elements.{All-nil, All-weaker}
+use Rattle.std.proofs.lemmas.List.FromFn.{length-map-range_with_len, get_or-map-range_with_len}
 use Rattle.std.proofs.lemmas.List.Sums.{AllPass-from_list_all}
 use Rattle.fs_types.specs.declared.limits.TheConstants.{LONGEST_FILE}
 use Rattle.fs_types.specs.PlainFile.{File, written}
@@ -10,11 +11,12 @@ use Rattle.fs_types.proofs.CallerLemmas.{All-written, length-written}
 use Rattle.fs_script.specs.declared.line.OpLine.{OpLine}
 use Rattle.fs_script.specs.declared.line.Op.{Op}
 use Rattle.fs_script.specs.declared.line.Op.TheVariants as ops
-use Rattle.fs_script.specs.declared.line.Data.TheVariants.{Text}
+use Rattle.fs_script.specs.declared.line.Data.{Data}
+use Rattle.fs_script.specs.declared.line.Data.TheVariants.{Text, Pattern}
 use Rattle.fs_script.specs.TextBytes.{is_text_byte}
 use Rattle.fs_script.specs.Job.{Job, op_at}
-use Rattle.fs_script.specs.Payload.{brought, brought_in, bytes_brought, payload, offset, bytes_of}
-use Rattle.fs_script.specs.Grammar.{IsJob, IsOp, IsOpLine}
+use Rattle.fs_script.specs.Payload.{pattern_byte, data_bytes, brought, brought_in, bytes_brought, payload, offset, bytes_of}
+use Rattle.fs_script.specs.Grammar.{IsJob, IsData, IsOp, IsOpLine}
 use Rattle.fs_script.specs.Pending.{Answering, pending_at}
 use Rattle.fs_script.specs.Effect.{put_lines, is_enabled, makes, effect_in, effect, after_all, state}
 use Rattle.fs_script.proofs.Jobs.{IsOpLine-from_job}
@@ -28,15 +30,21 @@ AllBytes bytes = All (λ b. b < 256) bytes
 text_byte_below : (b : ℕ) → is_text_byte b ≡ true → b < 256
 text_byte_below b h = grind (arith, nat_tests)
 
+AllBytes-data : (d : Data) → IsData d → AllBytes (data_bytes d)
+AllBytes-data (Text bytes) is =
+    All-weaker (λ b. is_text_byte b ≡ true) (λ b. b < 256) text_byte_below bytes (AllPass-from_list_all is_text_byte bytes is.0)
+AllBytes-data (Pattern seed len) is = λ k d below.
+    let within : k < len = omega (arith, length-map-range_with_len (pattern_byte seed) 0 len) in
+    rw (get_or-map-range_with_len (pattern_byte seed) 0 len k k d within (omega arith)) (omega arith)
+
 -- the bytes that an operation brings
 AllBytes-brought : (op : Op) → IsOp op → AllBytes (bytes_brought (brought op))
 AllBytes-brought ops.Create is = All-nil (λ b. b < 256)
-AllBytes-brought (ops.Write off (Text bytes)) is =
-    All-weaker (λ b. is_text_byte b ≡ true) (λ b. b < 256) text_byte_below bytes (AllPass-from_list_all is_text_byte bytes is.1.0)
 AllBytes-brought ops.Open is = All-nil (λ b. b < 256)
-AllBytes-brought ops.Size is = All-nil (λ b. b < 256)
+AllBytes-brought (ops.Write off text) is = AllBytes-data text is.1
 AllBytes-brought ops.Sync is = All-nil (λ b. b < 256)
 AllBytes-brought (ops.Read off len) is = All-nil (λ b. b < 256)
+AllBytes-brought ops.Size is = All-nil (λ b. b < 256)
 
 module _ (s : Job) (job : IsJob s) where
   AllBytes-brought_in : (o : Option OpLine) → ((l : OpLine) → o ≡ Some l → IsOpLine s.shape l) → AllBytes (bytes_brought (brought_in o))

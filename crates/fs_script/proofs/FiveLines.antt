@@ -17,7 +17,7 @@ use Rattle.fs_script.specs.Effect.{state}
 use Rattle.fs_script.specs.Front.{front}
 use Rattle.fs_script.specs.Fits.{Fits}
 use Rattle.fs_script.specs.Journal.{committed, IsLegalEntry, IsLegalJournal}
-use Rattle.fs_script.specs.Reading.{job_of}
+use Rattle.fs_script.specs.Reading.Scripts.{job_of}
 use Rattle.fs_types.specs.AnswerList.{answer_at}
 
 abbrev pub path_a : List ℕ

@@ -3,10 +3,9 @@ pub mod PlainLists
 pub mod FiveLines
 pub mod Number
 pub mod Lines
-pub mod WordLists
 pub mod LineAt
 pub mod Reading
-pub mod ReadingCases
+mod ReadingCases
 pub mod Agreement
 pub mod States
 pub mod Fronts

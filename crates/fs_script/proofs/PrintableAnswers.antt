@@ -17,9 +17,8 @@ use Rattle.fs_types.proofs.CallerLemmas.{length-shown}
 use Rattle.fs_script.specs.declared.line.OpLine.{OpLine}
 use Rattle.fs_script.specs.declared.line.Op.{Op}
 use Rattle.fs_script.specs.declared.line.Op.TheVariants as ops
-use Rattle.fs_script.specs.declared.line.Data.TheVariants.{Text}
 use Rattle.fs_script.specs.Job.{Job, op_at}
-use Rattle.fs_script.specs.Payload.{brought}
+use Rattle.fs_script.specs.Payload.{data_bytes, brought}
 use Rattle.fs_script.specs.Operations.{Range, asked}
 use Rattle.fs_script.specs.Pending.{Answering}
 use Rattle.fs_script.specs.Effect.{state}
@@ -29,7 +28,7 @@ use Rattle.fs_script.specs.Grammar.{IsJob, IsOp}
 use Rattle.fs_script.specs.Printable.{IsPrintableBody, IsPrintableAnswer}
 use Rattle.fs_script.proofs.Digests.{IsDigest-md5}
 use Rattle.fs_script.proofs.FileBytes.{AllBytes, IsWithinLimits, IsWithinLimits-state}
-use Rattle.fs_script.proofs.Jobs.{IsOpLine-from_job}
+use Rattle.fs_script.proofs.Jobs.{IsOpLine-from_job, length-data}
 use Rattle.fs_script.proofs.JournalLines.{length-journal}
 
 -- ---- slots
@@ -41,8 +40,8 @@ parts_are_few len chunk slots short is = omega (arith, div-le_self len chunk)
 slots_are_few : (w : LineView) (op : Op) (slots : ℕ) → IsOp op → Accepts w (brought op) slots → slots < 2 ^ 32
 slots_are_few w ops.Create slots is accepts = absurd accepts
 slots_are_few w ops.Open slots is accepts = absurd accepts
-slots_are_few w (ops.Write off (Text bytes)) slots is accepts =
-    parts_are_few (length bytes) w.chunk slots is.1.1 accepts.2
+slots_are_few w (ops.Write off text) slots is accepts =
+    parts_are_few (length (data_bytes text)) w.chunk slots (length-data text is.1) accepts.2
 slots_are_few w ops.Sync slots is accepts = absurd accepts
 slots_are_few w (ops.Read off len) slots is accepts = absurd accepts
 slots_are_few w ops.Size slots is accepts = absurd accepts

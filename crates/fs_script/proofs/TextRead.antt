@@ -15,8 +15,9 @@ use Rattle.fs_types.specs.declared.answer.Body.{Body}
 use Rattle.fs_types.specs.declared.answer.Body.TheVariants as bodies
 use Rattle.fs_types.specs.declared.file_state.FileState.{FileState}
 use Rattle.fs_types.specs.declared.file_state.FileState.TheVariants as states
+use Rattle.fs_script.specs.Grammar.{spaced}
 use Rattle.fs_script.specs.Report.{Report}
-use Rattle.fs_script.specs.Text.{text, spaced, answer_words, answer_line, body_text, flag_text, entry_text, journal_line, file_words, file_line, path_lines, line_feed}
+use Rattle.fs_script.specs.Text.{text, answer_words, answer_line, body_text, flag_text, entry_text, journal_line, file_words, file_line, path_lines, line_feed}
 use Rattle.fs_script.specs.Printable.{AreBytes, IsPrintableBody, IsPrintableAnswer, IsPrintableLine, IsPrintableJournal, IsPrintableState, IsPrintableFile, IsPrintable}
 use Rattle.fs_script.proofs.TextParts.{AreAbove, cut_at, cut_at-first, cut_at-none, AreAbove-append, AreAbove-lower, AreAbove-decimal, AreAbove-encode_lower, AreAbove-path}
 use Rattle.fs_script.proofs.TextReader.{number, bytes_of_hex, read_body, read_four, read_answer, read_state, with_answer, with_journal, with_file, with_line, read_lines, read}

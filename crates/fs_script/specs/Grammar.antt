@@ -1,10 +1,10 @@
--- The grammar of scripts: which bytes spell a job.
-use Rattle.std.specs.Prelude.{◌≡◌, ℕ, ◌*◌, ◌%◌, ◌^◌, ◌<◌, ◌≤◌, ◌==◌, List, [], ◌∷◌, ◌++◌, length, codes, if◌then◌else◌}
-use Rattle.std.specs.List.{slice_split, AllByRecursion}
+-- The grammar of scripts: which bytes spell a job, and the limits of a job.
+use Rattle.std.specs.Prelude.{◌≡◌, ℕ, ◌+◌, ◌*◌, ◌%◌, ◌^◌, ◌<◌, ◌≤◌, ◌==◌, Bool, true, IsTrue, List, [], ◌∷◌, ◌++◌, length, codes}
+use Rattle.std.specs.List.{join_with_byte, AllByRecursion}
 use Rattle.std.specs.Fmt.{decimal}
 use Rattle.fs_types.specs.PathText.{IsPath}
 use Rattle.fs_script.specs.TextBytes.{AreTextBytes}
-use Rattle.fs_script.specs.declared.limits.TheConstants.{SCRIPT_LIMIT, LINE_LIMIT, TRANSFER_LIMIT, LEAST_CHUNK, MOST_CHUNK, CHUNK_UNIT, MEMORY_SLOTS, MEMORY_BYTES}
+use Rattle.fs_script.specs.declared.limits.TheConstants.{SCRIPT_LIMIT, LINE_LIMIT, TRANSFER_LIMIT, SERVER_LIMIT, CLIENT_LIMIT, LEAST_CHUNK, MOST_CHUNK, CHUNK_UNIT, MEMORY_SLOTS, MEMORY_BYTES, SPILL_SLOTS, SPILL_BYTES}
 use Rattle.fs_script.specs.declared.shape.Shape.{Shape}
 use Rattle.fs_script.specs.declared.line.Line.{Line}
 use Rattle.fs_script.specs.declared.line.Line.TheVariants as lines
@@ -12,50 +12,71 @@ use Rattle.fs_script.specs.declared.line.OpLine.{OpLine}
 use Rattle.fs_script.specs.declared.line.Op.{Op}
 use Rattle.fs_script.specs.declared.line.Op.TheVariants as ops
 use Rattle.fs_script.specs.declared.line.Data.{Data}
-use Rattle.fs_script.specs.declared.line.Data.TheVariants.{Text}
+use Rattle.fs_script.specs.declared.line.Data.TheVariants.{Text, Pattern}
 use Rattle.fs_script.specs.Job.{Job}
+use Rattle.fs_script.specs.Reading.Pieces.{lines_of}
 
--- the parts of a text between line feeds, without an empty one at the end
-abbrev pub without_empty_end : List (List ℕ) → List (List ℕ)
-without_empty_end [] = []
-without_empty_end (l ∷ []) = if length l == 0 then [] else l ∷ []
-without_empty_end (l ∷ m ∷ ls) = l ∷ without_empty_end (m ∷ ls)
+-- ---- the header
 
--- the lines of a text: a line feed ends each, and the last may lack it
-abbrev pub lines_of : List ℕ → List (List ℕ)
-lines_of bytes = without_empty_end (slice_split (λ b. b == 10) bytes)
+-- words with a space between each two
+abbrev pub spaced : List (List ℕ) → List ℕ
+spaced words = join_with_byte 32 words
+
+-- the words of a header with its numbers
+abbrev pub shape_words : Shape → List (List ℕ)
+shape_words h =
+    (codes "servers=" ++ decimal h.servers)
+    ∷ (codes "clients=" ++ decimal h.clients)
+    ∷ (codes "chunk=" ++ decimal h.chunk)
+    ∷ (codes "shmem=" ++ decimal h.shmem)
+    ∷ (codes "spill=" ++ decimal h.spill)
+    ∷ []
 
 -- the header of a shape
 abbrev pub header_text : Shape → List ℕ
-header_text h = codes "unifyfs 1 servers=" ++ decimal h.servers ++ codes " clients=" ++ decimal h.clients ++ codes " chunk=" ++ decimal h.chunk
-    ++ codes " shmem=" ++ decimal h.shmem ++ codes " spill=" ++ decimal h.spill
+header_text h = codes "unifyfs 1 " ++ spaced (shape_words h)
 
--- the numbers of a shape that a job may have: one server and one client, whose slots are in shared memory
+-- so many slots for each client are, over all clients, no more slots and no more bytes than these
+pub record AreFew (h : Shape) (each most_slots most_bytes : ℕ) : Type 0 where
+  pub slots : h.clients * each ≤ most_slots
+  pub bytes : h.clients * each * h.chunk ≤ most_bytes
+
+-- the numbers of a shape that a job may have
 pub record IsShape (h : Shape) : Type 0 where
-  pub servers : h.servers ≡ 1
-  pub clients : h.clients ≡ 1
+  pub some_server : 1 ≤ h.servers
+  pub servers : h.servers ≤ SERVER_LIMIT
+  pub some_client : 1 ≤ h.clients
+  pub clients : h.clients ≤ CLIENT_LIMIT
   pub chunk_least : LEAST_CHUNK ≤ h.chunk
   pub chunk_most : h.chunk ≤ MOST_CHUNK
   pub chunk_whole : h.chunk % CHUNK_UNIT ≡ 0
-  pub some_slot : 1 ≤ h.shmem
-  pub slots : h.shmem ≤ MEMORY_SLOTS
-  pub slot_bytes : h.shmem * h.chunk ≤ MEMORY_BYTES
-  pub spill : h.spill ≡ 0
+  pub some_slot : 1 ≤ h.shmem + h.spill
+  pub memory : AreFew h h.shmem MEMORY_SLOTS MEMORY_BYTES
+  pub spill : AreFew h h.spill SPILL_SLOTS SPILL_BYTES
+
+-- ---- the lines after it
 
 abbrev pub data_text : Data → List ℕ
 data_text (Text bytes) = codes "t:" ++ bytes
+data_text (Pattern seed len) = codes "p:" ++ decimal seed ++ codes ":" ++ decimal len
 
--- an operation on a path, without its client
-abbrev pub op_text : Op → List ℕ → List ℕ
-op_text ops.Create p = codes "create " ++ p
-op_text ops.Open p = codes "open " ++ p
-op_text (ops.Write off text) p = codes "write " ++ p ++ codes " " ++ decimal off ++ codes " " ++ data_text text
-op_text ops.Sync p = codes "sync " ++ p
-op_text (ops.Read off len) p = codes "read " ++ p ++ codes " " ++ decimal off ++ codes " " ++ decimal len
-op_text ops.Size p = codes "size " ++ p
+-- the words of an operation on a path, without its client
+abbrev pub op_words : Op → List ℕ → List (List ℕ)
+op_words ops.Create p = codes "create" ∷ p ∷ []
+op_words ops.Open p = codes "open" ∷ p ∷ []
+op_words (ops.Write off text) p = codes "write" ∷ p ∷ decimal off ∷ data_text text ∷ []
+op_words ops.Sync p = codes "sync" ∷ p ∷ []
+op_words (ops.Read off len) p = codes "read" ∷ p ∷ decimal off ∷ decimal len ∷ []
+op_words ops.Size p = codes "size" ∷ p ∷ []
 
+-- the text of an operation: its client and its other words
+abbrev pub op_text : OpLine → List ℕ
+op_text o = spaced (decimal o.rank ∷ op_words o.op o.path)
+
+-- the bytes that a write may bring
 abbrev pub IsData : Data → Type 0
 IsData (Text bytes) = AreTextBytes bytes × (length bytes ≤ TRANSFER_LIMIT)
+IsData (Pattern seed len) = (seed < 2 ^ 64) × (len ≤ TRANSFER_LIMIT)
 
 -- the numbers and bytes that an operation may have
 abbrev pub IsOp : Op → Type 0
@@ -72,17 +93,11 @@ pub record IsOpLine (h : Shape) (o : OpLine) : Type 0 where
   pub path : IsPath o.path
   pub op : IsOp o.op
 
--- a line that a job may have; one of a single client has no notes and no barriers
+-- a line that a job may have
 abbrev pub IsLine : Shape → Line → Type 0
-IsLine h lines.Note = ⊥
-IsLine h lines.Barrier = ⊥
+IsLine h lines.Note = Unit {0}
+IsLine h lines.Barrier = Unit {0}
 IsLine h (lines.Op o) = IsOpLine h o
-
--- the text of a line
-abbrev pub line_text : Line → List ℕ
-line_text lines.Note = []
-line_text lines.Barrier = codes "barrier"
-line_text (lines.Op o) = decimal o.rank ++ codes " " ++ op_text o.op o.path
 
 -- a job within the limits
 pub record IsJob (s : Job) : Type 0 where
@@ -90,16 +105,25 @@ pub record IsJob (s : Job) : Type 0 where
   pub lines : AllByRecursion (IsLine s.shape) s.lines
   pub few : length s.lines < LINE_LIMIT
 
--- these bytes spell a line
-abbrev pub SpellsLine : Shape → Line → List ℕ → Type 0
-SpellsLine h l bytes = IsLine h l × (bytes ≡ line_text l)
+-- ---- scripts
+
+-- an empty line, or one that begins with `#`
+abbrev pub is_note : List ℕ → Bool
+is_note [] = true
+is_note (b ∷ bs) = b == 35
+
+-- this is a text of a line
+abbrev pub IsTextOf : Line → List ℕ → Type 0
+IsTextOf lines.Note text = IsTrue (is_note text)
+IsTextOf lines.Barrier text = text ≡ codes "barrier"
+IsTextOf (lines.Op o) text = text ≡ op_text o
 
 -- these texts spell these lines, one by one
 abbrev pub SpellLines : Shape → List Line → List (List ℕ) → Type 0
 SpellLines h [] [] = Unit {0}
 SpellLines h [] (t ∷ ts) = ⊥
 SpellLines h (l ∷ ls) [] = ⊥
-SpellLines h (l ∷ ls) (t ∷ ts) = SpellsLine h l t × SpellLines h ls ts
+SpellLines h (l ∷ ls) (t ∷ ts) = IsLine h l × IsTextOf l t × SpellLines h ls ts
 
 -- these texts are the header and the lines of a job
 abbrev pub SpellJob : Job → List (List ℕ) → Type 0

@@ -1,16 +1,23 @@
 -- Payloads: the bytes that a line writes, where in the file it writes them, and the parts that they are cut into.
-use Rattle.std.specs.Prelude.{ℕ, ◌*◌, List, [], length, take, drop, Option, Some, None}
+use Rattle.std.specs.Prelude.{ℕ, ◌+◌, ◌*◌, ◌/◌, ◌%◌, List, [], length, map, take, drop, Option, Some, None}
+use Rattle.std.specs.List.{range_with_len}
 use Rattle.std.specs.Int.{div_ceil}
 use Rattle.fs_types.specs.Marks.{Mark, marks_of}
 use Rattle.fs_script.specs.declared.line.OpLine.{OpLine}
 use Rattle.fs_script.specs.declared.line.Op.{Op}
 use Rattle.fs_script.specs.declared.line.Op.TheVariants as ops
 use Rattle.fs_script.specs.declared.line.Data.{Data}
-use Rattle.fs_script.specs.declared.line.Data.TheVariants.{Text}
+use Rattle.fs_script.specs.declared.line.Data.TheVariants.{Text, Pattern}
 use Rattle.fs_script.specs.Job.{Job, op_at}
 
+-- byte i of the pattern of a seed
+abbrev pub pattern_byte : ℕ → ℕ → ℕ
+pattern_byte seed i = (seed + 31 * i + i / 256) % 256
+
+-- the bytes that are written out, or those that are computed
 abbrev pub data_bytes : Data → List ℕ
 data_bytes (Text bytes) = bytes
+data_bytes (Pattern seed len) = map (pattern_byte seed) (range_with_len 0 len)
 
 -- what a write brings: the place in the file, and the bytes from there on
 pub record Write : Type 0 where

@@ -1,6 +1,6 @@
 -- The text of a report.
 use Rattle.std.specs.Prelude.{ℕ, Bool, true, false, List, [], ◌∷◌, ◌++◌, codes}
-use Rattle.std.specs.List.{flat_map, join_with_byte}
+use Rattle.std.specs.List.{flat_map}
 use Rattle.std.specs.Fmt.{decimal}
 use Rattle.hex.specs.Hex.{encode_lower}
 use Rattle.fs_types.specs.declared.answer.Answer.{Answer}
@@ -9,15 +9,12 @@ use Rattle.fs_types.specs.declared.answer.Body.{Body}
 use Rattle.fs_types.specs.declared.answer.Body.TheVariants as bodies
 use Rattle.fs_types.specs.declared.file_state.FileState.{FileState}
 use Rattle.fs_types.specs.declared.file_state.FileState.TheVariants as states
+use Rattle.fs_script.specs.Grammar.{spaced}
 use Rattle.fs_script.specs.Report.{Report}
 
 -- the end of a line
 abbrev pub line_feed : List ℕ
 line_feed = 10 ∷ []
-
--- words with a space between each two
-abbrev pub spaced : List (List ℕ) → List ℕ
-spaced words = join_with_byte 32 words
 
 abbrev pub body_text : Body → List ℕ
 body_text (bodies.Hex bytes) = codes "hex=" ++ encode_lower bytes

@@ -10,8 +10,18 @@ use thiserror::Error;
 /// What is wrong with a line.
 #[derive(Clone, Copy, Debug, PartialEq, Eq)]
 pub enum Reason {
-    /// It has none of the forms of operations.
+    /// The first word is no client of the job.
+    Rank,
+    /// The second word is missing, or is no operation.
     Op,
+    /// The operation has too few words, or too many.
+    Words,
+    /// The third word is no path.
+    Path,
+    /// A word is no number where there has to be one.
+    Number,
+    /// The last word is no payload.
+    Data,
 }
 
 /// The first fault of bytes that are no script, or want of memory.
@@ -20,10 +30,16 @@ pub enum ScriptFault {
     /// The first line is no header of a job.
     #[error("the first line is no header of a job")]
     BadHeader,
-    /// The first line after the header that is none of a script.
-    #[error("line {number} has none of the forms of operations", number = .line.0)]
+    /// A number of the first line, or what a later line moves, is outside its limits.
+    #[error("line {number} is over a limit", number = .line.0)]
+    OverLimit { line: LineNo },
+    /// A line after the header is none of a script.
+    #[error("line {number} is none of a script", number = .line.0)]
     BadLine { line: LineNo, reason: Reason },
-    /// There are more than 4,194,304 bytes, or more than 65,536 lines.
+    /// There are more than 65,536 lines.
+    #[error("the script has too many lines")]
+    TooManyLines,
+    /// There are more than 4,194,304 bytes.
     #[error("the script is too long")]
     TooLong,
     /// Memory ran out.

@@ -1,6 +1,9 @@
 //! The lines of a script.
 
-ghost use Rattle.std.specs.Prelude.{◌≡◌, length};
+ghost use Rattle.std.specs.Prelude.{◌≡◌, ◌+◌, ◌≤◌, length, take, drop, map};
+ghost use Rattle.std.specs.List.{range_with_len};
+ghost use Rattle.fs_script.specs.declared.limits.TheConstants.{TRANSFER_LIMIT};
+ghost use Rattle.fs_script.specs.Payload.{pattern_byte};
 
 use crate::text_bytes::TextBytes;
 use fs_types::{Path, Rank};
@@ -45,6 +48,28 @@ pub enum Op {
 pub enum Data {
     /// Written out in the script.
     Text(TextBytes),
+    /// Computed from a seed, so many.
+    Pattern { seed: u64, len: u32 },
+}
+
+/// Byte `i` of the pattern of a seed.
+fn pattern_byte(seed: u64, i: u64) -> u8
+    requires { i ≤ TRANSFER_LIMIT }
+    ensures { result ≡ pattern_byte seed i }
+{
+    ((seed % 256 + 31 * i + i / 256) % 256) as u8
+}
+
+/// Fills `out` with the pattern of a seed, from the byte at `from` on.
+fn fill_pattern(seed: u64, from: u64, out: &mut [u8])
+    requires { from + length out.old ≤ TRANSFER_LIMIT }
+    ensures { out.new ≡ map (λ k. pattern_byte seed (from + k)) (range_with_len 0 (length out.old)) }
+{
+    let mut place = from;
+    for byte in out.iter_mut() {
+        *byte = pattern_byte(seed, place);
+        place += 1;
+    }
 }
 
 impl Data {
@@ -56,6 +81,22 @@ impl Data {
     {
         match self {
             Data::Text(text) => text.as_bytes().len() as u64,
+            Data::Pattern { len, .. } => u64::from(*len),
+        }
+    }
+
+    /// Copies the bytes from the one at `from` on, until `out` is full.
+    pub(crate) fn copy_into(&self, from: u64, out: &mut [u8])
+        requires within { from + length out.old ≤ length (data_bytes self.now) }
+        requires few { length (data_bytes self.now) ≤ TRANSFER_LIMIT }
+        ensures { out.new ≡ take (length out.old) (drop from (data_bytes self.now)) }
+    {
+        match self {
+            Data::Text(text) => {
+                let from = from as usize;
+                out.copy_from_slice(&text.as_bytes()[from..from + out.len()]);
+            }
+            Data::Pattern { seed, .. } => fill_pattern(*seed, from, out),
         }
     }
 }

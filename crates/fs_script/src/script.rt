@@ -4,7 +4,7 @@ ghost use Rattle.std.specs.Prelude.{◌≡◌, ◌<◌, ◌≤◌, ◌+◌, leng
 ghost use Rattle.std.specs.List.{range_with_len};
 ghost use Rattle.fs_script.specs.Grammar.{IsJob};
 ghost use Rattle.fs_script.specs.Job.{is_barrier, line_at, phase};
-ghost use Rattle.fs_script.specs.Payload.{write_at, payload};
+ghost use Rattle.fs_script.specs.Payload.{data_bytes, write_at, payload};
 
 use crate::limits::LINE_LIMIT;
 use crate::line::{Data, Line, Op, OpLine};
@@ -105,24 +105,21 @@ impl Script {
         self.phases[before.min(self.lines.len())]
     }
 
-    /// The bytes that line `n` writes.
-    fn payload(&self, n: LineNo) -> &[u8]
+    /// What line `n` writes.
+    fn data(&self, n: LineNo) -> &Data
         requires { IsSome (write_at self.now n) }
-        ensures { result.now ≡ payload self.now n }
+        ensures { data_bytes result.now ≡ payload self.now n }
     {
         match self.line(n) {
             Some(
                 Line::Op(
                     OpLine {
-                        op: Op::Write {
-                            text: Data::Text(bytes),
-                            ..
-                        },
+                        op: Op::Write { text, .. },
                         ..
                     },
                 ),
-            ) => bytes.as_bytes(),
-            _ => &[],
+            ) => text,
+            _ => unreachable!(),
         }
     }
 
@@ -131,7 +128,7 @@ impl Script {
         requires { IsSome (write_at self.now n) }
         ensures { result ≡ length (payload self.now n) }
     {
-        self.payload(n).len() as u64
+        self.data(n).len()
     }
 
     /// Copies the bytes that line `n` writes, from the byte at `from` on, until `out` is full.
@@ -140,7 +137,7 @@ impl Script {
         requires within { from + length out.old ≤ length (payload self.now n) }
         ensures { out.new ≡ take (length out.old) (drop from (payload self.now n)) }
     {
-        let from = from as usize;
-        out.copy_from_slice(&self.payload(n)[from..from + out.len()]);
+        let _ = &self.shape;
+        self.data(n).copy_into(from, out);
     }
 }

@@ -1,34 +1,71 @@
 //! The header of a script.
 
-ghost use Rattle.std.specs.Prelude.{◌≡◌, ◌&&◌, map, codes};
-ghost use Rattle.std.specs.Str.{bytes_eq};
-ghost use Rattle.fs_script.specs.Reading.{is_shape, checked_shape, shape_of, header_of_words, header_of};
-ghost use Rattle.fs_script.specs.Returned.{Finds};
+ghost use Rattle.std.specs.Prelude.{◌≡◌, ◌≤◌};
+ghost use Rattle.fs_script.specs.Reading.Headers.{field, are_few, is_chunk, is_shape, within_limits, shape_of, shape_of_words, header_of};
+ghost use Rattle.fs_script.specs.declared.limits.TheConstants.{MOST_CHUNK, MEMORY_SLOTS};
 
-use crate::limits::{CHUNK_UNIT, LEAST_CHUNK, MEMORY_BYTES, MEMORY_SLOTS, MOST_CHUNK};
-use crate::read::number::field;
-use crate::read::part_fault::PartFault;
-use crate::read::words::words;
+use crate::fault::ScriptFault;
+use crate::limits::{
+    CHUNK_UNIT, CLIENT_LIMIT, LEAST_CHUNK, MEMORY_BYTES, MEMORY_SLOTS, MOST_CHUNK, SERVER_LIMIT,
+    SPILL_BYTES, SPILL_SLOTS,
+};
+use crate::read::number::read_number;
+use crate::read::pieces::Pieces;
 use crate::shape::Shape;
-use std::alloc::Global;
+use fs_types::LineNo;
+
+/// The number behind a name such as `servers=`.
+fn field(name: &[u8], word: &[u8]) -> Result<u64, ScriptFault>
+    ensures { result ≡ field name.now word.now }
+{
+    match word.strip_prefix(name) {
+        Some(number) => read_number(number).ok_or(ScriptFault::BadHeader),
+        None => Err(ScriptFault::BadHeader),
+    }
+}
+
+/// Whether so many slots for each client are, over all clients, no more slots and no more bytes
+/// than these.
+fn are_few(clients: u64, chunk: u64, slots: u64, most_slots: u64, most_bytes: u64) -> bool
+    requires chunk { chunk ≤ MOST_CHUNK }
+    requires slots { most_slots ≤ MEMORY_SLOTS }
+    ensures { result ≡ are_few clients chunk slots most_slots most_bytes }
+{
+    match clients.checked_mul(slots) {
+        Some(all) => all <= most_slots && all * chunk <= most_bytes,
+        None => false,
+    }
+}
+
+/// Whether a job may have slots of this size.
+fn is_chunk(chunk: u64) -> bool
+    ensures { result ≡ is_chunk chunk }
+{
+    LEAST_CHUNK <= chunk && chunk <= MOST_CHUNK && chunk % CHUNK_UNIT == 0
+}
 
 /// The shape with these numbers, if a job may have them.
-fn checked_shape(servers: u64, clients: u64, chunk: u64, shmem: u64, spill: u64) -> Option<Shape>
-    ensures { result ≡ checked_shape (record { servers = servers; clients = clients; chunk = chunk; shmem = shmem; spill = spill }) }
+fn within_limits(
+    servers: u64,
+    clients: u64,
+    chunk: u64,
+    shmem: u64,
+    spill: u64,
+) -> Result<Shape, ScriptFault>
+    ensures { result ≡ within_limits (record { servers = servers; clients = clients; chunk = chunk; shmem = shmem; spill = spill }) }
 {
-    let is_shape = servers == 1
-        && clients == 1
-        && LEAST_CHUNK <= chunk
-        && chunk <= MOST_CHUNK
-        && chunk % CHUNK_UNIT == 0
-        && 1 <= shmem
-        && shmem <= MEMORY_SLOTS
-        && shmem * chunk <= MEMORY_BYTES
-        && spill == 0;
+    let is_shape = 1 <= servers
+        && servers <= SERVER_LIMIT
+        && 1 <= clients
+        && clients <= CLIENT_LIMIT
+        && is_chunk(chunk)
+        && (1 <= shmem || 1 <= spill)
+        && are_few(clients, chunk, shmem, MEMORY_SLOTS, MEMORY_BYTES)
+        && are_few(clients, chunk, spill, SPILL_SLOTS, SPILL_BYTES);
     if !is_shape {
-        return None;
+        return Err(ScriptFault::OverLimit { line: LineNo(1) });
     }
-    Some(Shape {
+    Ok(Shape {
         servers: servers as u32,
         clients: clients as u32,
         chunk: chunk as u32,
@@ -37,40 +74,39 @@ fn checked_shape(servers: u64, clients: u64, chunk: u64, shmem: u64, spill: u64)
     })
 }
 
-fn shape(servers: &[u8], clients: &[u8], chunk: &[u8], shmem: &[u8], spill: &[u8]) -> Option<Shape>
+fn shape(
+    servers: &[u8],
+    clients: &[u8],
+    chunk: &[u8],
+    shmem: &[u8],
+    spill: &[u8],
+) -> Result<Shape, ScriptFault>
     ensures { result ≡ shape_of servers.now clients.now chunk.now shmem.now spill.now }
 {
-    checked_shape(
-        field(b"servers=", servers)?,
-        field(b"clients=", clients)?,
-        field(b"chunk=", chunk)?,
-        field(b"shmem=", shmem)?,
-        field(b"spill=", spill)?,
-    )
+    let servers = field(b"servers=", servers)?;
+    let clients = field(b"clients=", clients)?;
+    let chunk = field(b"chunk=", chunk)?;
+    let shmem = field(b"shmem=", shmem)?;
+    let spill = field(b"spill=", spill)?;
+    within_limits(servers, clients, chunk, shmem, spill)
 }
 
-/// Whether these words begin the header of a script of this kind.
-fn is_format(name: &[u8], edition: &[u8]) -> bool
-    ensures { result ≡ (bytes_eq name.now (codes "unifyfs") && bytes_eq edition.now (codes "1")) }
+/// The shape that the words say.
+fn shape_of_words(mut words: Pieces<'_>) -> Result<Shape, ScriptFault>
+    ensures { result ≡ shape_of_words words.entry }
 {
-    name == b"unifyfs".as_slice() && edition == b"1".as_slice()
-}
-
-fn shape_of_words(words: &[&[u8]]) -> Option<Shape>
-    ensures { result ≡ header_of_words (map (λ x. x.now) words.now) }
-{
-    let [name, edition, servers, clients, chunk, shmem, spill] = words else {
-        return None;
-    };
-    if !is_format(name, edition) {
-        return None;
-    }
+    let servers = words.next().ok_or(ScriptFault::BadHeader)?;
+    let clients = words.next().ok_or(ScriptFault::BadHeader)?;
+    let (chunk, shmem, spill) = words.three().ok_or(ScriptFault::BadHeader)?;
     shape(servers, clients, chunk, shmem, spill)
 }
 
 /// The shape that the first line says.
-pub fn header(alloc: Global, line: &[u8]) -> Result<Shape, PartFault>
-    ensures { Finds result (header_of line.now) }
+pub fn header(line: &[u8]) -> Result<Shape, ScriptFault>
+    ensures { result ≡ header_of line.now }
 {
-    shape_of_words(&words(alloc, line)?).ok_or(PartFault::Form)
+    match line.strip_prefix(b"unifyfs 1 ") {
+        Some(words) => shape_of_words(Pieces::new(b' ', words)),
+        None => Err(ScriptFault::BadHeader),
+    }
 }

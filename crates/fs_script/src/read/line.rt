@@ -1,153 +1,100 @@
 //! The lines after the header.
 
-ghost use Rattle.std.specs.Prelude.{◌≡◌, map};
-ghost use Rattle.fs_script.specs.Reading.{rank_of, path_of, span_of, data_of, op_without_numbers, write_of, read_of, op_with_numbers, op_of_words, op_line_of, line_of_words, line_of, text_of};
-ghost use Rattle.fs_script.specs.Returned.{Finds};
+ghost use Rattle.std.specs.Prelude.{◌≡◌};
+ghost use Rattle.fs_script.specs.declared.read.line_fault.LineFault.TheVariants.{Want};
+ghost use Rattle.fs_script.specs.declared.read.op_kind.OpKind.TheVariants as kinds;
+ghost use Rattle.fs_script.specs.Grammar.{is_note};
+ghost use Rattle.fs_script.specs.Reading.Lines.{path_alone, op_of_kind, op_of_words, op_line_of, line_of};
+ghost use Rattle.fs_script.specs.Returned.{Gives};
 
-use crate::limits::TRANSFER_LIMIT;
-use crate::line::{Data, Line, Op, OpLine};
-use crate::read::number::read_number;
-use crate::read::part_fault::PartFault;
-use crate::read::words::words;
+use crate::fault::Reason;
+use crate::line::{Line, Op, OpLine};
+use crate::read::line_fault::LineFault;
+use crate::read::op_kind::OpKind;
+use crate::read::pieces::Pieces;
+use crate::read::word::{data, path, place, rank, span};
 use crate::shape::Shape;
-use crate::text_bytes::TextBytes;
-use fs_types::{Path, PathFault, Rank};
+use fs_types::Path;
 use std::alloc::Global;
 
-fn rank(shape: &Shape, word: &[u8]) -> Option<Rank>
-    ensures { result ≡ rank_of shape.now word.now }
+/// The path of an operation that has no other word.
+fn path_alone(alloc: Global, words: Pieces<'_>) -> Result<Path, LineFault>
+    ensures { Gives Want (λ p. p) result (path_alone words.entry) }
 {
-    let rank = read_number(word)?;
-    if rank >= u64::from(shape.clients) {
-        return None;
-    }
-    Some(Rank(rank as u32))
+    let word = words.one().ok_or(LineFault::Bad(Reason::Words))?;
+    path(alloc, word)
 }
 
-fn path(alloc: Global, word: &[u8]) -> Result<Path, PartFault>
-    ensures { Finds result (path_of word.now) }
+/// A write and its path, from the words after its name.
+fn write(alloc: Global, words: Pieces<'_>) -> Result<(Path, Op), LineFault>
+    ensures { Gives Want (λ x. x) result (op_of_kind kinds.Write words.entry) }
 {
-    match Path::read(alloc, word) {
-        Ok(path) => Ok(path),
-        Err(PathFault::BadPath) => Err(PartFault::Form),
-        Err(PathFault::Want) => Err(PartFault::Want),
-    }
-}
-
-/// The number of bytes that a read asks for.
-fn span(word: &[u8]) -> Option<u64>
-    ensures { result ≡ span_of word.now }
-{
-    let len = read_number(word)?;
-    if len > TRANSFER_LIMIT {
-        return None;
-    }
-    Some(len)
-}
-
-fn text(alloc: Global, bytes: &[u8]) -> Result<Data, PartFault>
-    ensures { Finds result (text_of bytes.now) }
-{
-    if !TextBytes::holds(bytes) || bytes.len() as u64 > TRANSFER_LIMIT {
-        return Err(PartFault::Form);
-    }
-    Ok(Data::Text(TextBytes::from_slice(alloc, bytes)?))
-}
-
-/// The payload that a word says.
-fn data(alloc: Global, word: &[u8]) -> Result<Data, PartFault>
-    ensures { Finds result (data_of word.now) }
-{
-    match word.strip_prefix(b"t:") {
-        Some(bytes) => text(alloc, bytes),
-        None => Err(PartFault::Form),
-    }
-}
-
-fn op_without_numbers(kind: &[u8]) -> Option<Op>
-    ensures { result ≡ op_without_numbers kind.now }
-{
-    if kind == b"create".as_slice() {
-        Some(Op::Create)
-    } else if kind == b"open".as_slice() {
-        Some(Op::Open)
-    } else if kind == b"sync".as_slice() {
-        Some(Op::Sync)
-    } else if kind == b"size".as_slice() {
-        Some(Op::Size)
-    } else {
-        None
-    }
-}
-
-fn write(alloc: Global, off: &[u8], text: &[u8]) -> Result<Op, PartFault>
-    ensures { Finds result (write_of off.now text.now) }
-{
-    let off = read_number(off).ok_or(PartFault::Form)?;
+    let (name, off, text) = words.three().ok_or(LineFault::Bad(Reason::Words))?;
+    let path = path(alloc, name)?;
+    let off = place(off)?;
     let text = data(alloc, text)?;
-    Ok(Op::Write { off, text })
+    Ok((path, Op::Write { off, text }))
 }
 
-fn read(off: &[u8], len: &[u8]) -> Option<Op>
-    ensures { result ≡ read_of off.now len.now }
+/// A read and its path, from the words after its name.
+fn read(alloc: Global, words: Pieces<'_>) -> Result<(Path, Op), LineFault>
+    ensures { Gives Want (λ x. x) result (op_of_kind kinds.Read words.entry) }
 {
-    let off = read_number(off)?;
+    let (name, off, len) = words.three().ok_or(LineFault::Bad(Reason::Words))?;
+    let path = path(alloc, name)?;
+    let off = place(off)?;
     let len = span(len)?;
-    Some(Op::Read { off, len })
+    Ok((path, Op::Read { off, len }))
 }
 
-fn op_with_numbers(alloc: Global, kind: &[u8], a: &[u8], b: &[u8]) -> Result<Op, PartFault>
-    ensures { Finds result (op_with_numbers kind.now a.now b.now) }
+/// An operation of this kind and its path, from the words after its name.
+fn op_of_kind(alloc: Global, kind: OpKind, words: Pieces<'_>) -> Result<(Path, Op), LineFault>
+    ensures { Gives Want (λ x. x) result (op_of_kind kind words.entry) }
 {
-    if kind == b"write".as_slice() {
-        write(alloc, a, b)
-    } else if kind == b"read".as_slice() {
-        read(a, b).ok_or(PartFault::Form)
-    } else {
-        Err(PartFault::Form)
+    match kind {
+        OpKind::Create => Ok((path_alone(alloc, words)?, Op::Create)),
+        OpKind::Open => Ok((path_alone(alloc, words)?, Op::Open)),
+        OpKind::Write => write(alloc, words),
+        OpKind::Sync => Ok((path_alone(alloc, words)?, Op::Sync)),
+        OpKind::Read => read(alloc, words),
+        OpKind::Size => Ok((path_alone(alloc, words)?, Op::Size)),
     }
 }
 
-/// What a client does, from the word for it and the words after the path.
-fn op(alloc: Global, kind: &[u8], numbers: &[&[u8]]) -> Result<Op, PartFault>
-    ensures { Finds result (op_of_words kind.now (map (λ x. x.now) numbers.now)) }
+/// An operation and its path, from the words after the client.
+fn op(alloc: Global, mut words: Pieces<'_>) -> Result<(Path, Op), LineFault>
+    ensures { Gives Want (λ x. x) result (op_of_words words.entry) }
 {
-    match numbers.len() {
-        0 => op_without_numbers(kind).ok_or(PartFault::Form),
-        2 => op_with_numbers(alloc, kind, numbers[0], numbers[1]),
-        _ => Err(PartFault::Form),
-    }
+    let name = words.next().ok_or(LineFault::Bad(Reason::Op))?;
+    let kind = OpKind::of(name).ok_or(LineFault::Bad(Reason::Op))?;
+    op_of_kind(alloc, kind, words)
 }
 
-/// The operation of the client and on the path that the first two words say.
-fn op_line(
-    alloc: Global,
-    shape: &Shape,
-    rank_word: &[u8],
-    path_word: &[u8],
-    kind: &[u8],
-    numbers: &[&[u8]],
-) -> Result<Line, PartFault>
-    ensures { Finds result (op_line_of shape.now rank_word.now path_word.now (op_of_words kind.now (map (λ x. x.now) numbers.now))) }
+/// An operation of a client, from all words of its line.
+fn op_line(alloc: Global, shape: &Shape, mut words: Pieces<'_>) -> Result<Line, LineFault>
+    ensures { Gives Want (λ l. l) result (op_line_of shape.now words.entry) }
 {
-    let rank = rank(shape, rank_word).ok_or(PartFault::Form)?;
-    let path = path(alloc, path_word)?;
-    let op = op(alloc, kind, numbers)?;
+    let first = words.next().ok_or(LineFault::Bad(Reason::Rank))?;
+    let rank = rank(shape, first)?;
+    let (path, op) = op(alloc, words)?;
     Ok(Line::Op(OpLine { rank, path, op }))
 }
 
-fn line_of_words(alloc: Global, shape: &Shape, words: &[&[u8]]) -> Result<Line, PartFault>
-    ensures { Finds result (line_of_words shape.now (map (λ x. x.now) words.now)) }
+fn is_note(text: &[u8]) -> bool
+    ensures { result ≡ is_note text.now }
 {
-    let [rank, kind, path, numbers @ ..] = words else {
-        return Err(PartFault::Form);
-    };
-    op_line(alloc, shape, rank, path, kind, numbers)
+    matches!(text, [] | [b'#', ..])
 }
 
 /// The line that a text says.
-pub fn line(alloc: Global, shape: &Shape, text: &[u8]) -> Result<Line, PartFault>
-    ensures { Finds result (line_of shape.now text.now) }
+pub fn line(alloc: Global, shape: &Shape, text: &[u8]) -> Result<Line, LineFault>
+    ensures { Gives Want (λ l. l) result (line_of shape.now text.now) }
 {
-    line_of_words(alloc, shape, &words(alloc, text)?)
+    if is_note(text) {
+        Ok(Line::Note)
+    } else if text == b"barrier".as_slice() {
+        Ok(Line::Barrier)
+    } else {
+        op_line(alloc, shape, Pieces::new(b' ', text))
+    }
 }

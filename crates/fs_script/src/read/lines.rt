@@ -2,7 +2,7 @@
 
 ghost use Rattle.std.specs.Prelude.{◌≡◌, ◌==◌, ◌<◌, [], ◌∷◌, length, MatchOption};
 ghost use Rattle.std.specs.List.{position};
-ghost use Rattle.fs_script.specs.Grammar.{lines_of};
+ghost use Rattle.fs_script.specs.Reading.Pieces.{lines_of};
 
 fn line_feed(text: &[u8]) -> Option<usize>
     ensures { result ≡ position (λ b. b == 10) text.now }

@@ -3,7 +3,7 @@
 ghost use Rattle.std.specs.Prelude.{◌≡◌};
 ghost use Rattle.std.specs.List.{list_all};
 ghost use Rattle.std.specs.Char.{is_ascii_digit};
-ghost use Rattle.fs_script.specs.Reading.{is_numeral, number_of, field_of};
+ghost use Rattle.fs_script.specs.Reading.Numbers.{is_numeral, number_of};
 
 fn are_digits(word: &[u8]) -> bool
     ensures { result ≡ list_all is_ascii_digit word.now }
@@ -30,11 +30,4 @@ pub fn read_number(word: &[u8]) -> Option<u64>
         value = value.checked_mul(10)?.checked_add(u64::from(b - b'0'))?;
     }
     Some(value)
-}
-
-/// The number behind a name such as `servers=`.
-pub fn field(name: &[u8], word: &[u8]) -> Option<u64>
-    ensures { result ≡ field_of name.now word.now }
-{
-    read_number(word.strip_prefix(name)?)
 }

@@ -1,13 +1,10 @@
-use Rattle.std.proofs.Common.{◌≡◌, ◌∷◌, ◌∙◌, Ok, Some}
-use Rattle.fs_script.specs.Grammar.{lines_of}
-use Rattle.fs_script.specs.Reading.{header_of, job_of}
-use Rattle.fs_script.proofs.Reading.Scripts.{within_limits, after_first, script_fits, job_is_script}
+use Rattle.std.proofs.Common.{sym}
+use Rattle.fs_script.specs.Reading.Pieces.{lines_of}
+use Rattle.fs_script.proofs.Reading.Scripts.{read_fits}
 use Rattle.fs_script.proofs.read.script.Goals as goal
 
 pub new-requires : goal.new-requires
 new-requires c =
-    let bytes = c.args.text.now in
-    let split : lines_of bytes ≡ c.in-Some.first.now ∷ lines_of c.in-Some.others.now = rw (c.in-Some.first-is, c.in-Some.others-is) c.in-Some.ensures.0 in
-    let shape : header_of c.in-Some.first.now ≡ Some c.in-Ok.shape = rw c.in-Ok.shape-is c.in-Ok.ensures in
-    let read : job_of bytes ≡ Ok (record { shape = c.in-Ok.shape; lines = c.in_ok-lines-in-Ok.lines.items }) = within_limits bytes c.requires.size c.requires.lines ∙ after_first bytes c.in-Some.first.now (lines_of c.in-Some.others.now) c.in-Ok.shape c.in_ok-lines-in-Ok.lines.items split shape c.in_ok-lines-in-Ok.ensures in
-    script_fits bytes _ (job_is_script bytes _ read)
+    let first = c.in_ok-first.first.now in
+    let others = lines_of c.in_ok-first.others.now in
+    read_fits first others c.in_ok-shape.shape c.in_ok-lines.lines.items (sym c.in_ok-shape.ensures) c.in_ok-lines.ensures

@@ -2,7 +2,7 @@ use Rattle.std.proofs.Common.{◌≡◌, ◌∙◌, sym, ap, Some, true, arith}
 use Rattle.std.specs.Str.Parse.{digits_value}
 use Rattle.std.proofs.lemmas.List.{take_all}
 use Rattle.fs_script.proofs.Number.{is_step, number_is, number_too_great}
-use Rattle.fs_script.specs.Reading.{is_numeral}
+use Rattle.fs_script.specs.Reading.Numbers.{is_numeral}
 use Rattle.fs_script.proofs.read.number.read_number.Goals as goal
 
 pub returns-in_err-checked_mul : goal.returns-in_err-checked_mul

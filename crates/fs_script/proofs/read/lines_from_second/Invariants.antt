@@ -1,8 +1,8 @@
 use Rattle.std.proofs.Common.{◌≡◌, ◌+◌, length}
-use Rattle.fs_script.specs.Grammar.{lines_of}
-use Rattle.fs_script.specs.Reading.{lines_from}
+use Rattle.fs_script.specs.Reading.Pieces.{lines_of}
+use Rattle.fs_script.specs.Reading.Scripts.{lines_from}
 use Rattle.fs_script.proofs.Lines.{with_front}
-use Rattle.fs_script.proofs.read.lines_after_header.Given as goal
+use Rattle.fs_script.proofs.read.lines_from_second.Given as goal
 
 abbrev pub invariant-loop-first : goal.invariant-loop-first
 invariant-loop-first l = record {

@@ -1,0 +1,8 @@
+-- Reading goes step by step, and the first fault ends it.
+use Rattle.std.specs.Prelude.{Result, Ok, Err}
+
+-- the second step, where the first gave a value
+infixl 10 ◌>>=◌
+abbrev pub ◌>>=◌ : {A B E : Type 0} → Result A E → (A → Result B E) → Result B E
+(Ok x) >>= f = f x
+(Err e) >>= f = Err e
