@@ -59,6 +59,10 @@ end
 # Builds the program where that is due, so that no case below has the messages of a build.
 "$program" sim 0 <"$job" >"$work/out" || echo "shell.sh: the program did not run"
 
+# Each job has beside it its report under seed 0.
+for each in "$root"/jobs/*.job; do
+    check "the job ${each##*/}" 0 "$(<"${each%.job}.report")"$'\n' '' sim 0 <"$each"
+done
 printf '%s' "$(<"$job")" >"$work/no_last_line_feed"
 check 'a job' 0 "$report" '' sim 0 <"$job"
 check 'a job without its last line feed' 0 "$report" '' sim 0 <"$work/no_last_line_feed"

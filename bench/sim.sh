@@ -1,12 +1,12 @@
 #!/usr/bin/env bash
-# Times `sim 0` on jobs of 1,000, 2,000, 4,000 and 8,000 lines, and prints microseconds a line and the
-# growth from one size to the next. A growth of 2.00 is in proportion to the job.
+# Times `sim 0` on jobs of growing sizes, and prints for each how many microseconds and how many read
+# bytes come to a line, and how the time of a line grew from the size before it. A growth of 1.00 is
+# in proportion to the job.
 #
 # usage: bench/sim.sh [PROGRAM]     PROGRAM: the program to time, in place of the one built here
 set -eu
 
 root=$(cd -P -- "$(dirname -- "${BASH_SOURCE[0]}")/.." >/dev/null && pwd)
-sizes=(1000 2000 4000 8000)
 # Each job is run so often, and its shortest time counts.
 rounds=5
 
@@ -21,10 +21,10 @@ fi
 work=$(mktemp -d)
 trap 'rm -rf -- "$work"' EXIT
 
-# A job of so many lines over eight paths. After the creates come rounds of nine lines on one path
-# after another: six writes of 64 bytes, each where the one before it ended, two reads of the last
-# 4 KiB that were committed, and a sync.
-make_job() {
+# A job of one client and so many lines over eight paths. After the creates come rounds of nine lines
+# on one path after another: six writes of 64 bytes, each where the one before it ended, two reads of
+# the last 4 KiB that were committed, and a sync.
+one_client() {
     awk -v lines="$1" 'BEGIN {
         paths = 8
         print "unifyfs 1 servers=1 clients=1 chunk=4096 shmem=65536 spill=0"
@@ -50,6 +50,43 @@ make_job() {
     }'
 }
 
+# A job of 64 clients over 16 servers, of so many lines over 512 paths, eight for each client. In the
+# first phase each client creates its paths. In each later one it writes 512 bytes to the end of one of
+# them and syncs it, then opens a path of the next client, asks for its size, and reads the last 512
+# bytes that were committed to it in earlier phases.
+phases() {
+    awk -v lines="$1" 'BEGIN {
+        clients = 64
+        each = 8
+        print "unifyfs 1 servers=16 clients=64 chunk=1024 shmem=1024 spill=0"
+        n = 1
+        for (r = 0; r < clients; r++) {
+            for (k = 0; k < each; k++) {
+                printf "%d create /unifyfs/bench/%d/%d\n", r, r, k
+                n++
+            }
+        }
+        for (round = 0; n < lines; round++) {
+            print "barrier"
+            n++
+            k = round % each
+            for (r = 0; r < clients && n < lines; r++) {
+                q = (r + 1) % clients
+                from = committed[k] > 512 ? committed[k] - 512 : 0
+                for (step = 0; step < 5 && n < lines; step++) {
+                    if (step == 0) printf "%d write /unifyfs/bench/%d/%d %d p:%d:512\n", r, r, k, committed[k], n
+                    if (step == 1) printf "%d sync /unifyfs/bench/%d/%d\n", r, r, k
+                    if (step == 2) printf "%d open /unifyfs/bench/%d/%d\n", r, q, k
+                    if (step == 3) printf "%d size /unifyfs/bench/%d/%d\n", r, q, k
+                    if (step == 4) printf "%d read /unifyfs/bench/%d/%d %d 512\n", r, q, k, from
+                    n++
+                }
+            }
+            committed[k] += 512
+        }
+    }'
+}
+
 now() {
     local t=${EPOCHREALTIME/[.,]/}
     printf '%s' "$t"
@@ -69,25 +106,35 @@ shortest() {
     printf '%s' "$best"
 }
 
-# The report answers each line but the header, and is whole.
+# The report answers each operation, and is whole.
 check_report() {
-    local answers
+    local answers operations
     answers=$(grep -c '^L ' "$work/report" || true)
-    if [ "$answers" -ne $(($1 - 1)) ] || [ "$(tail -n 1 "$work/report")" != end ]; then
-        echo "sim.sh: the report of $1 lines has $answers answers, or isn't whole" >&2
+    operations=$(grep -c '^[0-9]' "$work/job" || true)
+    if [ "$answers" -ne "$operations" ] || [ "$(tail -n 1 "$work/report")" != end ]; then
+        echo "sim.sh: the report of $operations operations has $answers answers, or isn't whole" >&2
         exit 1
     fi
 }
 
-printf '%8s %14s %16s %8s\n' lines microseconds 'microseconds/line' growth
-before=
-for lines in "${sizes[@]}"; do
-    make_job "$lines" >"$work/job"
-    took=$(shortest "$work/job")
-    check_report "$lines"
-    awk -v lines="$lines" -v took="$took" -v before="$before" 'BEGIN {
-        growth = before == "" ? "-" : sprintf("%.2f", took / before)
-        printf "%8d %14d %16.2f %8s\n", lines, took, took / lines, growth
-    }'
-    before=$took
-done
+# Times a job of these sizes.
+times() {
+    local job=$1 before=0 lines took bytes
+    shift
+    printf '\n%s\n%8s %14s %18s %16s %8s\n' "$job" lines microseconds microseconds/line 'bytes read/line' growth
+    for lines in "$@"; do
+        "$job" "$lines" >"$work/job"
+        took=$(shortest "$work/job")
+        check_report
+        bytes=$(awk '/^L .* n=[0-9]* (hex|md5)=/ { split($5, n, "="); sum += n[2] } END { print sum + 0 }' "$work/report")
+        awk -v lines="$lines" -v took="$took" -v bytes="$bytes" -v before="$before" 'BEGIN {
+            growth = before == 0 ? "-" : sprintf("%.2f", took / lines / before)
+            printf "%8d %14d %18.2f %16.2f %8s\n", lines, took, took / lines, bytes / lines, growth
+        }'
+        before=$(awk -v lines="$lines" -v took="$took" 'BEGIN { print took / lines }')
+    done
+}
+
+times one_client 1000 2000 4000 8000
+# The time of a line is to grow at most 1.3 from the first size to the second.
+times phases 8000 60000
