@@ -1,7 +1,7 @@
 use Rattle.std.proofs.Common.{◌+◌, length, ◌<◌, arith, length-drop}
 use Rattle.std.proofs.lemmas.List.{take_rest}
 use Rattle.std.proofs.lemmas.Bool.Decides.{nat_tests}
-use Rattle.fs_script.proofs.Lines.{IsFirstPiece, first_piece, first_line, last_line}
+use Rattle.fs_script.proofs.Lines.{first_piece, first_line, last_line}
 use Rattle.fs_script.proofs.read.lines.next_line.Goals as goal
 
 pub returns-in-Some : goal.returns-in-Some

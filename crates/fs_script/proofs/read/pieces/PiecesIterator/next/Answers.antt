@@ -1,6 +1,5 @@
-use Rattle.std.proofs.Common.{◌≡◌, ◌+◌, sym, ap, ◌∙◌, length, rules}
+use Rattle.std.proofs.Common.{◌+◌, sym, ap, ◌∙◌, length, rules}
 use Rattle.std.proofs.lemmas.List.{take_rest}
-use Rattle.fs_script.specs.Reading.Pieces.{pieces}
 use Rattle.fs_script.proofs.Lines.{first_piece, last_piece}
 use Rattle.fs_script.proofs.read.pieces.PiecesIterator.next.Goals as goal
 
