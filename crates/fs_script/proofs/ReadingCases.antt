@@ -15,7 +15,7 @@ use Rattle.fs_script.specs.Reading.Numbers.{number_of}
 use Rattle.fs_script.specs.Reading.Headers.{header_of}
 use Rattle.fs_script.specs.Reading.Lines.{line_of}
 use Rattle.fs_script.specs.Reading.Scripts.{lines_after_header, job_of}
-use Rattle.fs_script.proofs.FiveLines.{path_a, five_lines}
+use Rattle.fs_script.proofs.FiveLines.{path_a}
 
 -- ---- numbers
 

@@ -1,5 +1,5 @@
 use super::*;
-use fs_types::{LineNo, Path, Rank};
+use fs_types::{LineNo, Rank};
 use std::alloc::{AllocError, Global};
 use std::test::*;
 
@@ -123,22 +123,26 @@ fn notes_barriers_and_patterns_are_read(rt: HostRuntime) -> Result<(), Fail> {
     assert!(rt; matches!(script.line(LineNo(4)), Some(Line::Barrier)));
     assert_eq!(rt; script.phase_of(LineNo(3)), 0);
     assert_eq!(rt; script.phase_of(LineNo(5)), 1);
-    assert!(rt;
-        matches!(
-            script.line(LineNo(5)),
-            Some(Line::Op(OpLine {
-                rank: Rank(1),
-                op: Op::Write {
-                    off: 8,
-                    text: Data::Pattern {
-                        seed: u64::MAX,
-                        len: 600,
+    match script.line(LineNo(5)) {
+        Some(
+            Line::Op(
+                OpLine {
+                    rank,
+                    op: Op::Write {
+                        off,
+                        text: Data::Pattern { seed, len },
                     },
+                    ..
                 },
-                ..
-            }))
-        )
-    );
+            ),
+        ) => {
+            assert_eq!(rt; *rank, Rank(1));
+            assert_eq!(rt; *off, 8);
+            assert_eq!(rt; *seed, u64::MAX);
+            assert_eq!(rt; *len, 600);
+        }
+        _ => return Err("line 5 is a write".into()),
+    }
     Ok(())
 }
 
@@ -173,95 +177,53 @@ fn patterns_are_computed(rt: HostRuntime) -> Result<(), Fail> {
 }
 
 #[test]
-fn headers_are_refused_by_form_and_then_by_limits(rt: HostRuntime) {
-    let bad = Some(ScriptFault::BadHeader);
-    let over = Some(ScriptFault::OverLimit { line: LineNo(1) });
-    let cases = [
-        (b"".as_slice(), bad),
-        (
-            b"unifyfs 2 servers=1 clients=1 chunk=64 shmem=4 spill=0",
-            bad,
-        ),
-        (
-            b"unifyfs 1 servers=1 clients=1 chunk=064 shmem=4 spill=0",
-            bad,
-        ),
-        (b"unifyfs 1 servers=1 clients=1 chunk=64 shmem=4", bad),
-        (
-            b"unifyfs 1 servers=1 clients=1 chunk=64 shmem=4 spill=0 ",
-            bad,
-        ),
-        (
-            b"unifyfs 1 servers=0 clients=1 chunk=64 shmem=4 spill=x",
-            bad,
-        ),
-        (
-            b"unifyfs 1 servers=0 clients=1 chunk=64 shmem=4 spill=0",
-            over,
-        ),
-        (
-            b"unifyfs 1 servers=65 clients=1 chunk=64 shmem=4 spill=0",
-            over,
-        ),
-        (
-            b"unifyfs 1 servers=64 clients=64 chunk=64 shmem=4 spill=0",
-            None,
-        ),
-        (
-            b"unifyfs 1 servers=1 clients=0 chunk=64 shmem=4 spill=0",
-            over,
-        ),
-        (
-            b"unifyfs 1 servers=1 clients=65 chunk=64 shmem=4 spill=0",
-            over,
-        ),
-        (
-            b"unifyfs 1 servers=1 clients=1 chunk=56 shmem=4 spill=0",
-            over,
-        ),
-        (
-            b"unifyfs 1 servers=1 clients=1 chunk=68 shmem=4 spill=0",
-            over,
-        ),
-        (
-            b"unifyfs 1 servers=1 clients=1 chunk=72 shmem=4 spill=0",
-            None,
-        ),
-        (
-            b"unifyfs 1 servers=1 clients=1 chunk=65536 shmem=4096 spill=0",
-            None,
-        ),
-        (
-            b"unifyfs 1 servers=1 clients=1 chunk=65544 shmem=4 spill=0",
-            over,
-        ),
-        (
-            b"unifyfs 1 servers=1 clients=1 chunk=65536 shmem=4097 spill=0",
-            over,
-        ),
-        (
-            b"unifyfs 1 servers=1 clients=2 chunk=64 shmem=32768 spill=0",
-            None,
-        ),
-        (
-            b"unifyfs 1 servers=1 clients=2 chunk=64 shmem=32769 spill=0",
-            over,
-        ),
-        (
-            b"unifyfs 1 servers=1 clients=2 chunk=64 shmem=9223372036854775808 spill=0",
-            over,
-        ),
-        (
-            b"unifyfs 1 servers=1 clients=1 chunk=64 shmem=0 spill=0",
-            over,
-        ),
-        (
-            b"unifyfs 1 servers=1 clients=1 chunk=64 shmem=4 spill=1",
-            over,
-        ),
+fn headers_are_refused_by_form(rt: HostRuntime) {
+    let headers = [
+        b"".as_slice(),
+        b"unifyfs 2 servers=1 clients=1 chunk=64 shmem=4 spill=0",
+        b"unifyfs 1 servers=1 clients=1 chunk=064 shmem=4 spill=0",
+        b"unifyfs 1 servers=1 clients=1 chunk=64 shmem=4",
+        b"unifyfs 1 servers=1 clients=1 chunk=64 shmem=4 spill=0 ",
+        b"unifyfs 1 servers=0 clients=1 chunk=64 shmem=4 spill=x",
     ];
-    for (text, fault) in cases {
-        assert_eq!(rt; read_script(rt.alloc(), text).err(), fault);
+    for text in headers {
+        let fault = read_script(rt.alloc(), text).err();
+        assert_eq!(rt; fault, Some(ScriptFault::BadHeader));
+    }
+}
+
+#[test]
+fn headers_are_refused_by_limits(rt: HostRuntime) {
+    let headers = [
+        b"unifyfs 1 servers=0 clients=1 chunk=64 shmem=4 spill=0".as_slice(),
+        b"unifyfs 1 servers=65 clients=1 chunk=64 shmem=4 spill=0",
+        b"unifyfs 1 servers=1 clients=0 chunk=64 shmem=4 spill=0",
+        b"unifyfs 1 servers=1 clients=65 chunk=64 shmem=4 spill=0",
+        b"unifyfs 1 servers=1 clients=1 chunk=56 shmem=4 spill=0",
+        b"unifyfs 1 servers=1 clients=1 chunk=68 shmem=4 spill=0",
+        b"unifyfs 1 servers=1 clients=1 chunk=65544 shmem=4 spill=0",
+        b"unifyfs 1 servers=1 clients=1 chunk=65536 shmem=4097 spill=0",
+        b"unifyfs 1 servers=1 clients=2 chunk=64 shmem=32769 spill=0",
+        b"unifyfs 1 servers=1 clients=2 chunk=64 shmem=9223372036854775808 spill=0",
+        b"unifyfs 1 servers=1 clients=1 chunk=64 shmem=0 spill=0",
+        b"unifyfs 1 servers=1 clients=1 chunk=64 shmem=4 spill=1",
+    ];
+    for text in headers {
+        let fault = read_script(rt.alloc(), text).err();
+        assert_eq!(rt; fault, Some(ScriptFault::OverLimit { line: LineNo(1) }));
+    }
+}
+
+#[test]
+fn headers_at_their_limits_are_read(rt: HostRuntime) {
+    let headers = [
+        b"unifyfs 1 servers=64 clients=64 chunk=64 shmem=4 spill=0".as_slice(),
+        b"unifyfs 1 servers=1 clients=1 chunk=72 shmem=1 spill=0",
+        b"unifyfs 1 servers=1 clients=1 chunk=65536 shmem=4096 spill=0",
+        b"unifyfs 1 servers=1 clients=2 chunk=64 shmem=32768 spill=0",
+    ];
+    for text in headers {
+        assert!(rt; read_script(rt.alloc(), text).is_ok());
     }
 }
 
