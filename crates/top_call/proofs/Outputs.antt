@@ -8,7 +8,7 @@ use Rattle.fs_types.specs.declared.status.Status.{Status}
 use Rattle.fs_types.specs.declared.status.Status.TheVariants as statuses
 use Rattle.fs_script.specs.Job.{Job}
 use Rattle.fs_script.specs.Grammar.{IsScript}
-use Rattle.fs_script.specs.Reading.{job_of}
+use Rattle.fs_script.specs.Reading.Scripts.{job_of}
 use Rattle.fs_script.proofs.CallerLemmas.{script_is_job}
 use Rattle.top_call.specs.Faults.{HasRisen}
 use Rattle.top_call.specs.Told.{IsAtEnd, then_bytes}

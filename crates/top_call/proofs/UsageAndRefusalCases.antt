@@ -12,12 +12,23 @@ usage = refl
 too_long : refusal_line faults.TooLong ≡ codes "refused long\n"
 too_long = refl
 
+too_many_lines : refusal_line faults.TooManyLines ≡ codes "refused lines\n"
+too_many_lines = refl
+
 bad_header : refusal_line faults.BadHeader ≡ codes "refused header\n"
 bad_header = refl
 
 second_line : refusal_line (faults.BadLine 2 reasons.Op) ≡ codes "refused line=2 reason=op\n"
 unfolding digits
 second_line = refl
+
+fifth_line : refusal_line (faults.BadLine 5 reasons.Number) ≡ codes "refused line=5 reason=number\n"
+unfolding digits
+fifth_line = refl
+
+limit_of_header : refusal_line (faults.OverLimit 1) ≡ codes "refused limit line=1\n"
+unfolding digits
+limit_of_header = refl
 
 greatest_line : refusal_line (faults.BadLine 65536 reasons.Op) ≡ codes "refused line=65536 reason=op\n"
 unfolding digits

@@ -5,7 +5,7 @@ use Rattle.fs_types.specs.declared.status.Status.TheVariants as statuses
 use Rattle.fs_script.specs.declared.fault.ScriptFault.{ScriptFault}
 use Rattle.fs_script.specs.Job.{Job}
 use Rattle.fs_script.specs.Grammar.{IsScript}
-use Rattle.fs_script.specs.Reading.{job_of}
+use Rattle.fs_script.specs.Reading.Scripts.{job_of}
 use Rattle.fs_script.specs.Report.{Report, IsLegal}
 use Rattle.fs_script.specs.Text.{text}
 use Rattle.top_call.specs.UsageAndRefusals.{usage_line, refusal_line}

@@ -5,7 +5,7 @@ use Rattle.fs_types.specs.declared.status.Status.TheVariants.{Done, Usage, ReadF
 use Rattle.fs_types.specs.declared.status.Status.TheVariants.{Memory}
 use Rattle.fs_script.specs.Job.{Job}
 use Rattle.fs_script.specs.Grammar.{IsScript}
-use Rattle.fs_script.specs.Reading.{job_of}
+use Rattle.fs_script.specs.Reading.Scripts.{job_of}
 use Rattle.top_call.specs.Faults.{HasRisen}
 use Rattle.top_call.specs.Told.{IsAtEnd, then_bytes}
 use Rattle.top_call.specs.Sink.{TookFront}

@@ -12,12 +12,19 @@ abbrev pub usage_line : List ℕ
 usage_line = codes "usage: unifyfs sim SEED | run | check NAME | load N | stage NAME" ++ line_feed
 
 abbrev pub reason_text : Reason → List ℕ
+reason_text reasons.Rank = codes "rank"
 reason_text reasons.Op = codes "op"
+reason_text reasons.Words = codes "words"
+reason_text reasons.Path = codes "path"
+reason_text reasons.Number = codes "number"
+reason_text reasons.Data = codes "data"
 
 -- why a script is refused; want of memory is no refusal, and has no line
 abbrev pub refusal_line : ScriptFault → List ℕ
 refusal_line faults.TooLong = codes "refused long" ++ line_feed
+refusal_line faults.TooManyLines = codes "refused lines" ++ line_feed
 refusal_line faults.BadHeader = codes "refused header" ++ line_feed
+refusal_line (faults.OverLimit line) = codes "refused limit line=" ++ decimal line ++ line_feed
 refusal_line (faults.BadLine line reason) =
     codes "refused line=" ++ decimal line ++ codes " reason=" ++ reason_text reason ++ line_feed
 refusal_line faults.Want = []

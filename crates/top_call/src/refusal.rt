@@ -19,8 +19,21 @@ fn reason_text(reason: Reason) -> &'static [u8]
     ensures { result.now ≡ reason_text reason }
 {
     match reason {
+        Reason::Rank => b"rank",
         Reason::Op => b"op",
+        Reason::Words => b"words",
+        Reason::Path => b"path",
+        Reason::Number => b"number",
+        Reason::Data => b"data",
     }
+}
+
+fn append_over_limit(alloc: Global, out: &mut Vec<u8>, line: LineNo) -> Result<(), Want>
+    ensures { OnOk result (out.new.items ≡ out.old.items ++ refusal_line (ScriptFault.OverLimit line)) }
+{
+    append_number(alloc, out, b"refused limit line=", u64::from(line.0))?;
+    out.push(b'\n')?;
+    Ok(())
 }
 
 fn append_bad_line(
@@ -44,7 +57,9 @@ fn append_refusal(alloc: Global, out: &mut Vec<u8>, fault: &ScriptFault) -> Resu
 {
     match fault {
         ScriptFault::TooLong => out.extend_from_slice(b"refused long\n")?,
+        ScriptFault::TooManyLines => out.extend_from_slice(b"refused lines\n")?,
         ScriptFault::BadHeader => out.extend_from_slice(b"refused header\n")?,
+        ScriptFault::OverLimit { line } => append_over_limit(alloc, out, *line)?,
         ScriptFault::BadLine { line, reason } => append_bad_line(alloc, out, *line, *reason)?,
         ScriptFault::Want => {}
     }
