@@ -1,12 +1,12 @@
 -- Runs that go on by one event, and the journals that they leave.
-use Rattle.std.proofs.Common.{◌≡◌, ℕ, zero, suc, ◌%◌, arith, false, cond, List, [], ◌∷◌, ◌++◌, length, map, Option, Some, None, refl, sym, ap, subst, ◌∙◌}
-use Rattle.std.specs.Prelude.{max, unwrap_or}
+use Rattle.std.proofs.Common.{◌≡◌, ℕ, zero, suc, ◌%◌, false, cond, List, [], ◌∷◌, ◌++◌, length, map, Option, Some, None}
+use Rattle.std.proofs.Common.{refl, sym, ap, subst, ◌∙◌}
 use Rattle.std.specs.List.{slice_get, Contains}
 use Rattle.std.specs.Str.{bytes_eq}
 use Rattle.std.proofs.lemmas.Option.{same_Some, slice_get_within, get_or_from_slice_get}
 use Rattle.fs_types.specs.PathText.{IsPath}
 use Rattle.fs_script.specs.Grammar.{IsJob}
-use Rattle.fs_script.specs.Report.{AreRising, journal_of, IsLegal}
+use Rattle.fs_script.specs.Report.{Report, AreRising, journal_of, IsLegal}
 use Rattle.fs_script.proofs.CallerLemmas.{IsOpLine-from_job}
 use Rattle.core_machine.proofs.CallerLemmas.{not_among, same_bytes, other_bytes}
 use Rattle.fs_script.specs.declared.line.OpLine.{OpLine}
@@ -16,7 +16,7 @@ use Rattle.core_machine.specs.Step.{Turn, step, step_at, step_line}
 use Rattle.core_machine.specs.LegalSoFar.{HasClients, Reaches}
 use Rattle.core_machine.specs.RunLaws.{RunsAreLegal}
 use Rattle.core_machine.specs.MomentReport.{report_of}
-use Rattle.top_call.specs.PickedRun.{pick_at, picked, after_turn_of, moment_after}
+use Rattle.top_call.specs.PickedRun.{pick_at, picked, after_turn_of, moment_after, IsRunUnder, IsReportUnder}
 
 -- a run and one more turn
 pub Reaches-push : (m n : Moment) (turns : List Turn) (t : Turn) → Reaches m turns n → Contains (ready n) t.client → Reaches m (turns ++ t ∷ []) (step n t)
@@ -41,32 +41,33 @@ pub HasClients-job : (s : Job) → IsJob s → HasClients s
 HasClients-job s job n o is = (IsOpLine-from_job s n o job is).rank
 
 -- a run and one more turn, if a client has it
-Reaches-turn : (m n : Moment) (o : Option ℕ) (i : ℕ) → slice_get (ready n) i ≡ o → (turns : List Turn) × Reaches m turns n → (turns : List Turn) × Reaches m turns (after_turn_of n o)
+Reaches-turn : (m n : Moment) (o : Option ℕ) (i : ℕ) → slice_get (ready n) i ≡ o
+    → (turns : List Turn) × Reaches m turns n → (turns : List Turn) × Reaches m turns (after_turn_of n o)
 Reaches-turn m n None i at run = run
 Reaches-turn m n (Some r) i at run =
-    let t : Turn = record { client = r } in
-    (run.0 ++ t ∷ [], Reaches-push m n run.0 t run.1 (i, slice_get_within (ready n) i r at, get_or_from_slice_get (ready n) i r r at))
+    let waits : Contains (ready n) r = (i, slice_get_within (ready n) i r at, get_or_from_slice_get (ready n) i r r at) in
+    let t : Turn = record { client = r } in (run.0 ++ t ∷ [], Reaches-push m n run.0 t run.1 waits)
 
--- the moments of a run under picks are reached by some turns
-pub Reaches-moment_after : (picks : List ℕ) (m : Moment) (k : ℕ) → (turns : List Turn) × Reaches m turns (moment_after picks m k)
+-- what a run under picks comes to is reached by some turns
+Reaches-moment_after : (picks : List ℕ) (m : Moment) (k : ℕ) → (turns : List Turn) × Reaches m turns (moment_after picks m k)
 Reaches-moment_after picks m zero = ([], refl)
 Reaches-moment_after picks m (suc k) =
     let n = moment_after picks m k in
-    Reaches-turn m n (picked (pick_at picks k) (ready n)) (pick_at picks k % length (ready n)) refl (Reaches-moment_after picks m k)
+    let pick = pick_at picks k in
+    Reaches-turn m n (picked pick (ready n)) (pick % length (ready n)) refl (Reaches-moment_after picks m k)
 
--- so what such a run reports at its end is legal
-pub IsLegal-moment_after : (picks told : List ℕ) (s : Job) (m n : Moment) (k : ℕ) → RunsAreLegal → IsJob s → IsFirst s m → n ≡ moment_after picks m k → ready n ≡ [] → IsLegal s (report_of n) told
-IsLegal-moment_after picks told s m n k legal job first is ended =
-    let run = Reaches-moment_after picks m k in
-    let reaches = subst (λ (x : Moment). Reaches m run.0 x) (sym is) run.1 in
-    legal told s m n run.0 (HasClients-job s job) first reaches ended (Reaches-unspent m n run.0 reaches first.spent)
+-- so its report is legal
+pub IsLegal-run : {picks : List ℕ} {s : Job} {m n : Moment} (told : List ℕ)
+    → RunsAreLegal → IsJob s → IsFirst s m → IsRunUnder picks m n → IsLegal s (report_of n) told
+IsLegal-run {picks = picks} {s = s} {m = m} {n = n} told legal job first run =
+    let turns = Reaches-moment_after picks m run.events in
+    let reaches = subst (λ (x : Moment). Reaches m turns.0 x) (sym run.goes) turns.1 in
+    legal told s m n turns.0 (HasClients-job s job) first reaches run.ended (Reaches-unspent m n turns.0 reaches first.spent)
 
--- ---- the picks, one more at a time
-
--- the pick at the place that the code has come to
-pub pick_at-place : (picks : List ℕ) (k : ℕ) → unwrap_or (slice_get picks (k % max (length picks) 1)) 0 ≡ pick_at picks k
-pick_at-place [] k = refl
-pick_at-place (p ∷ ps) k = ap (λ n. unwrap_or (slice_get (p ∷ ps) (k % n)) 0) (omega arith)
+pub IsLegal-under : {picks : List ℕ} {s : Job} {report : Report} (told : List ℕ)
+    → RunsAreLegal → IsJob s → IsReportUnder picks s report → IsLegal s report told
+IsLegal-under {s = s} told legal job under =
+    subst (λ (R : Report). IsLegal s R told) (sym under.reported) (IsLegal-run told legal job under.begins under.run)
 
 -- ---- what is reported of each path
 

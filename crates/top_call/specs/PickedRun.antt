@@ -26,10 +26,16 @@ moment_after picks m zero = m
 moment_after picks m (suc k) =
     let now = moment_after picks m k in after_turn_of now (picked (pick_at picks k) (ready now))
 
--- the job was run under these picks from its first moment until no client was ready, and this is the report of the moment then
+-- the run that begins at m comes to n under these picks, and ends there: no client is ready any more
+pub record IsRunUnder (picks : List ℕ) (m n : Moment) : Type 0 where
+  pub events : ℕ
+  pub goes : n ≡ moment_after picks m events
+  pub ended : ready n ≡ []
+
+-- the report is that of the moment at which the job's run under these picks ends
 pub record IsReportUnder (picks : List ℕ) (s : Job) (report : Report) : Type 0 where
   pub first : Moment
+  pub last : Moment
   pub begins : IsFirst s first
-  pub events : ℕ
-  pub ended : ready (moment_after picks first events) ≡ []
-  pub reported : report ≡ report_of (moment_after picks first events)
+  pub run : IsRunUnder picks first last
+  pub reported : report ≡ report_of last

@@ -3,10 +3,10 @@
 ghost use Rattle.std.specs.Prelude.{◌≡◌, ℕ, ◌<◌, List, [], length, map, slice_get, unwrap_or, Some, Contains, IfNone, IfOk, OnOk};
 ghost use Rattle.fs_types.specs.PathText.{IsPath};
 ghost use Rattle.fs_script.specs.Report.{AreRising, IsLegal, file_state_of};
-ghost use Rattle.core_machine.specs.Moment.{ready, file_now};
+ghost use Rattle.core_machine.specs.Moment.{file_now};
 ghost use Rattle.core_machine.specs.MomentReport.{report_of};
 ghost use Rattle.top_call.specs.JobReport.{report_view, journal_entry, file_entry};
-ghost use Rattle.top_call.specs.PickedRun.{picked, moment_after, IsReportUnder};
+ghost use Rattle.top_call.specs.PickedRun.{picked, IsRunUnder, IsReportUnder};
 
 use crate::report::{JobReport, PathReport};
 use core_machine::{Core, runs_are_legal};
@@ -34,9 +34,7 @@ fn picked_client(ready: &[Rank], pick: u32) -> Option<Rank>
 
 // Gives each turn to the client that the next pick chooses until none is ready. The picks go round.
 fn run_to_end(core: &mut Core<'_>, picks: &[u32]) -> Result<(), Want>
-    ensures run { OnOk result
-        ((events : ℕ) × (core.new ≡ moment_after picks.now core.old events)) }
-    ensures ended { OnOk result (ready core.new ≡ []) }
+    ensures { OnOk result (IsRunUnder picks.now core.old core.new) }
 {
     let mut at = 0;
     while let Some(r) = picked_client(core.ready(), pick_in(picks, at)) {

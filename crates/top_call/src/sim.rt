@@ -42,7 +42,7 @@ pub enum SimFault {
 }
 
 // What a script's job reports where it is run under the picks of a seed.
-fn run(alloc: Global, seed: u64, s: &Script) -> Result<JobReport, Want>
+fn run_under_seed(alloc: Global, seed: u64, s: &Script) -> Result<JobReport, Want>
     ensures legal { IfOk result (λ r. (told : List ℕ) → IsLegal s.now (report_view r) told) }
     ensures run { IfOk result
         (λ r. IsReportUnder (first_picks seed PICK_COUNT) s.now (report_view r)) }
@@ -60,7 +60,7 @@ fn report(alloc: Global, seed: u64, s: &Script) -> Result<Reply, SimFault>
         × IsReportUnder (first_picks seed PICK_COUNT) s.now report) }
     ensures memory { result ≢ Err SimFault.ReadFault }
 {
-    let Ok(report) = run(alloc, seed, s) else {
+    let Ok(report) = run_under_seed(alloc, seed, s) else {
         return Err(SimFault::Memory);
     };
     match report_text(alloc, &report) {

@@ -7,5 +7,6 @@ returns-in-Ok g c =
     let command = sym c.read_command.ensures ∙ c.in-Some-Sim.is in
     let reply = c.in-Ok.ensures in
     let wrote = c.write_answer-in-Ok.ensures in
-    IsTopCall-sim _ _ _ _ _ _ _ _ _ command (rw (only_sim c.in-Some-Sim.field-0).1 refl) reply.answer reply.status reply.to_end (search rules)
+    let seed = only_sim c.in-Some-Sim.field-0 in
+    IsTopCall-sim _ _ _ _ _ _ _ _ _ command (rw seed.1 refl) reply.answer reply.status reply.to_end (search rules)
     (rw c.deref.ensures.value at wrote.written) wrote.risen wrote.calm
