@@ -1,0 +1,72 @@
+//! The blocks of a file that are kept, each with a byte that isn't 0.
+
+ghost use Rattle.std.specs.Prelude.{◌≡◌, ℕ, ◌+◌, ◌≤◌, ◌<◌, length, slice_index, option_copied, IfOk};
+ghost use Rattle.fs_types.specs.Overwrite.{put};
+ghost use Rattle.fs_plain.specs.Blocks.{byte_in, byte_put, is_blank};
+
+use crate::limits::BLOCK;
+use fs_types::Want;
+use std::alloc::{AllocError, Global};
+use std::marker::Model;
+
+/// [`BLOCK`] bytes, not all of them 0. A clause sees the list of them.
+#[derive(Debug, Drop)]
+pub struct Block {
+    bytes: Vec<u8>,
+}
+
+impl Model for Block {
+    ghost use Rattle.std.specs.Prelude.{ℕ, List};
+    ghost use Rattle.fs_plain.specs.Blocks.{IsBlock};
+
+    ghost Value = { List ℕ };
+
+    ghost view = { λ b. b.bytes.items };
+
+    ghost invariant = { λ b. IsBlock b.bytes.items };
+}
+
+fn is_blank(bytes: &[u8]) -> bool
+    ensures { result ≡ is_blank bytes.now }
+{
+    bytes.iter().all(|b| *b == 0)
+}
+
+// The bytes of a block once more, zeros where none is kept.
+fn bytes_of(alloc: Global, block: Option<&Block>) -> Result<Vec<u8>, AllocError>
+    ensures len { IfOk result (λ v. length v.items ≡ BLOCK) }
+    ensures bytes { IfOk result (λ v. (k : ℕ) → slice_index v.items k ≡ byte_in (option_copied block.entry) k) }
+{
+    match block {
+        Some(block) => Vec::from_slice(alloc, &block.bytes),
+        None => vec![in alloc; 0; BLOCK],
+    }
+}
+
+impl Block {
+    /// A block with `bytes` put over it from place `at` on, or `None` where only zeros are left.
+    pub fn with_bytes(
+        alloc: Global,
+        block: Option<&Block>,
+        at: usize,
+        bytes: &[u8],
+    ) -> Result<Option<Block>, Want>
+        requires { at + length bytes.now ≤ BLOCK }
+        ensures { IfOk result (λ b. (k : ℕ) → byte_in b k ≡ byte_put at bytes.now k (byte_in (option_copied block.entry) k)) }
+    {
+        let mut all = bytes_of(alloc, block)?;
+        all[at..at + bytes.len()].copy_from_slice(bytes);
+        if is_blank(&all) {
+            return Ok(None);
+        }
+        Ok(Some(Block { bytes: all }))
+    }
+
+    /// Byte `i` of the block.
+    pub fn byte(&self, i: usize) -> u8
+        requires { i < BLOCK }
+        ensures { result ≡ slice_index self.now i }
+    {
+        self.bytes[i]
+    }
+}
