@@ -1,7 +1,6 @@
 //! The blocks of a file that are kept, each with a byte that isn't 0.
 
-ghost use Rattle.std.specs.Prelude.{◌≡◌, ℕ, ◌+◌, ◌≤◌, ◌<◌, length, slice_index, option_copied, IfOk};
-ghost use Rattle.fs_types.specs.Overwrite.{put};
+ghost use Rattle.std.specs.Prelude.{◌≡◌, ℕ, ◌+◌, ◌≤◌, ◌<◌, length, replicate, slice_index, option_copied, IfOk};
 ghost use Rattle.fs_plain.specs.Blocks.{byte_in, byte_put, is_blank};
 
 use crate::limits::BLOCK;
@@ -32,6 +31,12 @@ fn is_blank(bytes: &[u8]) -> bool
     bytes.iter().all(|b| *b == 0)
 }
 
+fn zeros(alloc: Global) -> Result<Vec<u8>, AllocError>
+    ensures { IfOk result (λ v. v.items ≡ replicate BLOCK 0) }
+{
+    Ok(vec![in alloc; 0u8; BLOCK]?)
+}
+
 // The bytes of a block once more, zeros where none is kept.
 fn bytes_of(alloc: Global, block: Option<&Block>) -> Result<Vec<u8>, AllocError>
     ensures len { IfOk result (λ v. length v.items ≡ BLOCK) }
@@ -39,8 +44,16 @@ fn bytes_of(alloc: Global, block: Option<&Block>) -> Result<Vec<u8>, AllocError>
 {
     match block {
         Some(block) => Vec::from_slice(alloc, &block.bytes),
-        None => vec![in alloc; 0; BLOCK],
+        None => zeros(alloc),
     }
+}
+
+// Puts bytes over some of `all`, from place `at` on.
+fn put_over(all: &mut [u8], at: usize, bytes: &[u8])
+    requires { at + length bytes.now ≤ length all.old }
+    ensures { (k : ℕ) → slice_index all.new k ≡ byte_put at bytes.now k (slice_index all.old k) }
+{
+    all[at..at + bytes.len()].copy_from_slice(bytes);
 }
 
 impl Block {
@@ -55,7 +68,7 @@ impl Block {
         ensures { IfOk result (λ b. (k : ℕ) → byte_in b k ≡ byte_put at bytes.now k (byte_in (option_copied block.entry) k)) }
     {
         let mut all = bytes_of(alloc, block)?;
-        all[at..at + bytes.len()].copy_from_slice(bytes);
+        put_over(&mut all, at, bytes);
         if is_blank(&all) {
             return Ok(None);
         }
