@@ -1,6 +1,5 @@
 -- Bytes that are kept by blocks, and what stands at each place once some are put over them.
-use Rattle.std.proofs.Common.{◌≡◌, ℕ, zero, suc, ◌+◌, ◌-◌, ◌<◌, ◌≤◌, max, cond, leb, ltb, true, List, [], ◌∷◌, length, take, drop, ◌++◌, replicate, get_or, refl, sym, ap, ◌∙◌, inl, inr, arith}
-use Rattle.std.specs.Prelude.{◌&&◌}
+use Rattle.std.proofs.Common.{◌≡◌, ℕ, zero, suc, ◌+◌, ◌-◌, ◌<◌, ◌≤◌, max, true, List, [], ◌∷◌, length, take, drop, ◌++◌, replicate, get_or, refl, sym, ap, ◌∙◌, inl, inr, arith}
 use Rattle.std.proofs.lemmas.Bool.{cases_lt}
 use Rattle.std.proofs.lemmas.Bool.Decides.{nat_tests}
 use Rattle.std.proofs.lemmas.List.{get_or-replicate, get_or_past, length-replicate, length-take-le, get_or_append_left, get_or-append_right, get_or-take, get_or-drop}
@@ -63,6 +62,6 @@ module _ (m : List (ℕ × List ℕ)) (n : ℕ) where
       let xs = first_bytes m n in
       let len = length-put 0 xs at bytes some ∙ ap (λ x. max x (at + length bytes)) length-first_bytes in
       sym (fill_by_all (byte_at m') (put 0 xs at bytes) (max n (at + length bytes)) 0 len (λ k below.
-          get_or-put 0 xs at bytes k
-          ∙ ap (λ (b : ℕ). byte_put at bytes k b) (first_bytes-everywhere k rest)
-          ∙ sym (put_there k)))
+      get_or-put 0 xs at bytes k
+      ∙ ap (λ (b : ℕ). byte_put at bytes k b) (first_bytes-everywhere k rest)
+      ∙ sym (put_there k)))

@@ -57,6 +57,17 @@ fn put_over(all: &mut [u8], at: usize, bytes: &[u8])
 }
 
 impl Block {
+    // The block of these bytes, or `None` where they are zeros alone.
+    fn of(bytes: Vec<u8>) -> Option<Block>
+        requires { length bytes.items ≡ BLOCK }
+        ensures { (k : ℕ) → byte_in result k ≡ slice_index bytes.items k }
+    {
+        if is_blank(&bytes) {
+            return None;
+        }
+        Some(Block { bytes })
+    }
+
     /// A block with `bytes` put over it from place `at` on, or `None` where only zeros are left.
     pub fn with_bytes(
         alloc: Global,
@@ -69,10 +80,7 @@ impl Block {
     {
         let mut all = bytes_of(alloc, block)?;
         put_over(&mut all, at, bytes);
-        if is_blank(&all) {
-            return Ok(None);
-        }
-        Ok(Some(Block { bytes: all }))
+        Ok(Block::of(all))
     }
 
     /// Byte `i` of the block.

@@ -87,7 +87,8 @@ impl PlainFile {
 
     /// Whether there is a file, how long it is, and whether it is frozen.
     pub fn attr(&self) -> Attr
-        ensures { result ≡ attr_of self.now }
+        ensures attr { result ≡ attr_of self.now }
+        ensures size { result.size ≡ length (bytes_in self.now) }
     {
         match &self.content {
             Some(content) => Attr {
@@ -112,5 +113,13 @@ impl PlainFile {
             Some(content) => content.bytes.byte(at),
             None => 0,
         }
+    }
+
+    /// How many blocks are kept of its bytes.
+    #[cfg(test)]
+    pub(crate) fn blocks(&self) -> usize {
+        self.content
+            .as_ref()
+            .map_or(0, |content| content.bytes.blocks())
     }
 }

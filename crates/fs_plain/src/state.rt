@@ -14,12 +14,7 @@ use fs_types::{Answers, LineNo, Path, Want};
 use std::alloc::Global;
 
 // Puts what these lines bring over the file, in order.
-fn put_lines(
-    alloc: Global,
-    s: &Script,
-    lines: &[LineNo],
-    file: &mut PlainFile,
-) -> Result<(), Want>
+fn put_lines(alloc: Global, s: &Script, lines: &[LineNo], file: &mut PlainFile) -> Result<(), Want>
     ensures { OnOk result (file.new ≡ with_lines s.now (bytes_of s.now) lines.now file.old) }
 {
     for n in lines {

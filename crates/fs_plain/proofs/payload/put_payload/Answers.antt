@@ -1,4 +1,4 @@
-use Rattle.std.proofs.Common.{◌≡◌, ℕ, List, ◌+◌, ◌-◌, take, drop, ap, ◌∙◌, arith}
+use Rattle.std.proofs.Common.{ℕ, List, ◌+◌, ◌-◌, take, drop, ap, ◌∙◌, arith}
 use Rattle.fs_types.specs.Overwrite.{put}
 use Rattle.fs_script.specs.Payload.{payload}
 use Rattle.fs_plain.proofs.Pieces.{put-more}

@@ -1,18 +1,7 @@
-use Rattle.std.proofs.Common.{◌≡◌, ℕ, List, drop, length, slice_index, ap, ◌∙◌, sym, arith}
+use Rattle.std.proofs.Common.{ℕ, List, drop, length, slice_index, ap, ◌∙◌, arith}
 use Rattle.std.proofs.lemmas.List.{take_at}
-use Rattle.fs_plain.specs.Blocks.{byte_in, byte_put}
-use Rattle.fs_plain.proofs.Blocks.{blank}
+use Rattle.fs_plain.specs.Blocks.{byte_put}
 use Rattle.fs_plain.proofs.block.Block.with_bytes.Goals as goal
-
-pub returns-then-is_blank : goal.returns-then-is_blank
-returns-then-is_blank c = λ k.
-    let new = c.put_over.new.all in
-    let all = c.in_ok-all.all in
-    let whole = c.deref.ensures.value ∙ take_at new (drop (length new) all.items) all.len (omega arith) in
-    let byte = λ (xs : List ℕ). slice_index xs k in
-    let put = λ (b : ℕ). byte_put c.args.at c.args.bytes.now k b in
-    sym (blank c.deref.result.now k (sym c.is_blank.ensures ∙ c.if-is_blank.true))
-    ∙ ap byte whole ∙ c.put_over.ensures k ∙ ap put (ap byte c.deref_mut.ensures.value ∙ c.in_ok-all.ensures.bytes k)
 
 pub returns : goal.returns
 returns c = λ k.
@@ -21,4 +10,4 @@ returns c = λ k.
     let whole = take_at new (drop (length new) all.items) all.len (omega arith) in
     let byte = λ (xs : List ℕ). slice_index xs k in
     let put = λ (b : ℕ). byte_put c.args.at c.args.bytes.now k b in
-    ap byte whole ∙ c.put_over.ensures k ∙ ap put (ap byte c.deref_mut.ensures.value ∙ c.in_ok-all.ensures.bytes k)
+    c.of.ensures k ∙ ap byte whole ∙ c.put_over.ensures k ∙ ap put (ap byte c.deref_mut.ensures.value ∙ c.in_ok-all.ensures.bytes k)

@@ -1,5 +1,5 @@
-use Rattle.std.proofs.Common.{◌≡◌, ℕ, ◌<◌, ◌%◌, List, Option, Some, None, length, slice_index, ap, ◌∙◌, sym, arith}
-use Rattle.fs_plain.specs.Blocks.{byte_in, first_bytes}
+use Rattle.std.proofs.Common.{ℕ, ◌<◌, ◌%◌, List, Option, length, slice_index, ap, ◌∙◌, sym, arith}
+use Rattle.fs_plain.specs.Blocks.{byte_in}
 use Rattle.fs_plain.proofs.Blocks.{length-first_bytes, first_bytes-at}
 use Rattle.fs_plain.proofs.sparse_bytes.SparseBytes.byte.Goals as goal
 

@@ -1,4 +1,4 @@
-use Rattle.std.proofs.Common.{◌≡◌, ℕ, List, max, ap, ◌∙◌}
+use Rattle.std.proofs.Common.{ℕ, List, ap, ◌∙◌}
 use Rattle.fs_types.specs.Overwrite.{put}
 use Rattle.fs_plain.specs.Blocks.{first_bytes}
 use Rattle.fs_plain.proofs.Blocks.{first_bytes-put}
