@@ -65,3 +65,10 @@ module _ (m : List (ℕ × List ℕ)) (n : ℕ) where
       get_or-put 0 xs at bytes k
       ∙ ap (λ (b : ℕ). byte_put at bytes k b) (first_bytes-everywhere k rest)
       ∙ sym (put_there k)))
+
+-- what a function's attribute cites: of a part that is written over, of reading a list, and of putting bytes over it
+pub ruleset part_laws = (put_mid-byte)
+
+pub ruleset list_laws = (length-first_bytes, first_bytes-at)
+
+pub ruleset put_laws = (first_bytes-put)

@@ -28,3 +28,6 @@ put-more xs p off (suc a) b less within =
       | inl lt ↦ grind (arith, nat_tests, get_or-put 0 xs off one k, get_or-put 0 xs off (take b p) k, get_or-take n p (k - off) 0, get_or-take b p (k - off) 0)
       | inr le ↦ grind (arith, nat_tests, get_or-put 0 xs off one k, get_or-put 0 xs off (take b p) k, get_or-take b p (k - off) 0, get_or-take (b - n) (drop n p) (k - (off + n)) 0, get_or-drop n p (k - (off + n)) 0)
     ])
+
+-- what a function's attribute cites
+pub ruleset piece_laws = (put-more)

@@ -49,6 +49,7 @@ fn bytes_of(alloc: Global, block: Option<&Block>) -> Result<Vec<u8>, AllocError>
 }
 
 // Puts bytes over some of `all`, from place `at` on.
+#[tactic(auto, using(crate::proofs::Blocks::part_laws))]
 fn put_over(all: &mut [u8], at: usize, bytes: &[u8])
     requires { at + length bytes.now ≤ length all.old }
     ensures { (k : ℕ) → slice_index all.new k ≡ byte_put at bytes.now k (slice_index all.old k) }
@@ -58,6 +59,7 @@ fn put_over(all: &mut [u8], at: usize, bytes: &[u8])
 
 impl Block {
     // The block of these bytes, or `None` where they are zeros alone.
+    #[tactic(auto, using(crate::proofs::Blocks::blank))]
     fn of(bytes: Vec<u8>) -> Option<Block>
         requires { length bytes.items ≡ BLOCK }
         ensures { (k : ℕ) → byte_in result k ≡ slice_index bytes.items k }

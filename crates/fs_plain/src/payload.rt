@@ -47,6 +47,7 @@ fn put_piece(
 }
 
 // Puts what line `n` writes from place `off` of the file on.
+#[tactic(auto, using(crate::proofs::Pieces::piece_laws))]
 fn put_payload(
     alloc: Global,
     s: &Script,

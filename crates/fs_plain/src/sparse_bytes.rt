@@ -68,6 +68,7 @@ impl SparseBytes {
     }
 
     /// How many bytes there are.
+    #[tactic(auto, using(crate::proofs::Blocks::list_laws))]
     pub fn len(&self) -> u64
         ensures { result ≡ length self.now }
     {
@@ -75,6 +76,7 @@ impl SparseBytes {
     }
 
     /// The byte at a place.
+    #[tactic(auto, using(crate::proofs::Blocks::list_laws))]
     pub fn byte(&self, at: u64) -> u8
         requires { at < length self.now }
         ensures { result ≡ slice_index self.now at }
@@ -87,6 +89,7 @@ impl SparseBytes {
 
     /// Puts bytes that lie in one block over what is there, from place `at` on, with zeros in a
     /// gap before them.
+    #[tactic(auto, using(crate::proofs::Blocks::put_laws))]
     pub fn put(&mut self, alloc: Global, at: u64, bytes: &[u8]) -> Result<(), Want>
         requires some { 0 < length bytes.now }
         requires one_block { at % BLOCK + length bytes.now ≤ BLOCK }

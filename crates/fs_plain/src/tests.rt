@@ -39,6 +39,13 @@ fn script_of(alloc: Global, text: &[u8]) -> Result<Script, Fail> {
     Ok(script)
 }
 
+// Gives an answer to a line for which there is room.
+fn answer(answers: &mut Answers, n: u32, a: Answer) {
+    if 1 <= n && n <= answers.lines() {
+        answers.set(LineNo(n), a);
+    }
+}
+
 // The answers of a job: which lines were done, at versions from 1 on, which writes were accepted, and
 // which would end past the longest file.
 fn answers_of(
@@ -48,16 +55,16 @@ fn answers_of(
     too_big: &[u32],
 ) -> Result<Answers, Want> {
     let mut answers = Answers::new(alloc, 16)?;
-    for n in 1..answers.lines() {
-        let line = LineNo(n);
-        if let Some(i) = done.iter().position(|m| *m == n) {
-            let v = Version(i as u64 + 1);
-            answers.set(line, Answer::Done { v });
-        } else if accepted.contains(&n) {
-            answers.set(line, Answer::Wrote { slots: 1 });
-        } else if too_big.contains(&n) {
-            answers.set(line, Answer::TooBig);
-        }
+    let mut v = 0u64;
+    for n in done {
+        v = v.saturating_add(1);
+        answer(&mut answers, *n, Answer::Done { v: Version(v) });
+    }
+    for n in accepted {
+        answer(&mut answers, *n, Answer::Wrote { slots: 1 });
+    }
+    for n in too_big {
+        answer(&mut answers, *n, Answer::TooBig);
     }
     Ok(answers)
 }
