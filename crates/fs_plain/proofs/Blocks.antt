@@ -1,13 +1,15 @@
 -- Bytes that are kept by blocks, and what stands at each place once some are put over them.
-use Rattle.std.proofs.Common.{◌≡◌, ℕ, zero, suc, ◌+◌, ◌-◌, ◌<◌, ◌≤◌, max, true, List, [], ◌∷◌, length, take, drop, ◌++◌, replicate, get_or, refl, sym, ap, ◌∙◌, inl, inr, arith}
+use Rattle.std.proofs.Common.{◌≡◌, ℕ, zero, suc, ◌+◌, ◌-◌, ◌<◌, ◌≤◌, max, true, refl, sym, ap, ◌∙◌, inl, inr, arith}
+use Rattle.std.proofs.Common.{List, [], ◌∷◌, ◌++◌, length, take, drop, replicate, get_or}
 use Rattle.std.proofs.lemmas.Bool.{cases_lt}
 use Rattle.std.proofs.lemmas.Bool.Decides.{nat_tests}
-use Rattle.std.proofs.lemmas.List.{get_or-replicate, get_or_past, length-replicate, length-take-le, get_or_append_left, get_or-append_right, get_or-take, get_or-drop}
+use Rattle.std.proofs.lemmas.List.{get_or-replicate, get_or_past, length-replicate, length-take-le}
+use Rattle.std.proofs.lemmas.List.{get_or_append_left, get_or-append_right, get_or-take, get_or-drop}
 use Rattle.std.proofs.lemmas.List.FromFn.{length-map-range_with_len, get_or-map-range_with_len, fill_by_all}
 use borrow.Rule.Slice.PartMut.{put_mid}
 use Rattle.fs_types.specs.Overwrite.{put}
 use Rattle.fs_types.proofs.CallerLemmas.{length-put, get_or-put}
-use Rattle.fs_plain.specs.Blocks.{is_blank, byte_at, byte_put, first_bytes, AreZerosFrom}
+use Rattle.fs_plain.specs.Blocks.{is_blank, byte_at, byte_put, first_bytes, AreZerosFrom, PutsBytes}
 
 -- zeros are zeros, also past their end
 pub zeros : (n k : ℕ) → get_or {A = ℕ} (replicate n 0) k 0 ≡ 0
@@ -56,7 +58,7 @@ module _ (m : List (ℕ × List ℕ)) (n : ℕ) where
 
   -- blocks that have these bytes put over them are those of the list that has them put over it
   pub first_bytes-put : (m' : List (ℕ × List ℕ)) (at : ℕ) (bytes : List ℕ) → 0 < length bytes → AreZerosFrom m n
-      → ((k : ℕ) → byte_at m' k ≡ byte_put at bytes k (byte_at m k))
+      → PutsBytes at bytes (byte_at m) (byte_at m')
       → first_bytes m' (max n (at + length bytes)) ≡ put 0 (first_bytes m n) at bytes
   first_bytes-put m' at bytes some rest put_there =
       let xs = first_bytes m n in

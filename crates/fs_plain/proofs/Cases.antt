@@ -48,7 +48,8 @@ byte_behind = refl
 attr_of_none : attr_of (file_of None) ≡ record { exists = false; size = 0; frozen = false }
 attr_of_none = refl
 
-attr_of_three_bytes : attr_of (file_of (Some (record { bytes = codes "abc"; frozen = true }))) ≡ record { exists = true; size = 3; frozen = true }
+attr_of_three_bytes :
+    attr_of (file_of (Some (record { bytes = codes "abc"; frozen = true }))) ≡ record { exists = true; size = 3; frozen = true }
 attr_of_three_bytes = refl
 
 bytes_of_none : bytes_in (file_of None) ≡ []

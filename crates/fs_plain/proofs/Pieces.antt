@@ -15,18 +15,24 @@ put-more xs p off (suc a) b less within =
     let one = take n p in
     let two = take (b - n) (drop n p) in
     let ys = put 0 xs off one in
+    let both = take b p in
     let len_one = length-take n p in
     let len_two = length-take (b - n) (drop n p) in
     let len_rest = length-drop n p in
     let len_both = length-take b p in
     let size_one = length-put 0 xs off one (omega arith) in
     let size_two = length-put 0 ys (off + n) two (omega arith) in
-    let size = length-put 0 xs off (take b p) (omega arith) in
-    ext_get_or 0 (put 0 ys (off + n) two) (put 0 xs off (take b p)) (omega arith) (λ k below.
-    get_or-put 0 ys (off + n) two k
-    ∙ elim (cases_lt k (off + n)) [
-      | inl lt ↦ grind (arith, nat_tests, get_or-put 0 xs off one k, get_or-put 0 xs off (take b p) k, get_or-take n p (k - off) 0, get_or-take b p (k - off) 0)
-      | inr le ↦ grind (arith, nat_tests, get_or-put 0 xs off one k, get_or-put 0 xs off (take b p) k, get_or-take b p (k - off) 0, get_or-take (b - n) (drop n p) (k - (off + n)) 0, get_or-drop n p (k - (off + n)) 0)
+    let size = length-put 0 xs off both (omega arith) in
+    ext_get_or 0 (put 0 ys (off + n) two) (put 0 xs off both) (omega arith) (λ k below.
+    let at_one = get_or-put 0 xs off one k in
+    let at_both = get_or-put 0 xs off both k in
+    let of_both = get_or-take b p (k - off) 0 in
+    let of_one = get_or-take n p (k - off) 0 in
+    let of_two = get_or-take (b - n) (drop n p) (k - (off + n)) 0 in
+    let of_rest = get_or-drop n p (k - (off + n)) 0 in
+    get_or-put 0 ys (off + n) two k ∙ elim (cases_lt k (off + n)) [
+      | inl lt ↦ grind (arith, nat_tests, at_one, at_both, of_one, of_both)
+      | inr le ↦ grind (arith, nat_tests, at_one, at_both, of_both, of_two, of_rest)
     ])
 
 -- what a function's attribute cites

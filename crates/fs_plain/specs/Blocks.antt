@@ -1,5 +1,6 @@
 -- Bytes that are kept by blocks: a block that isn't kept is one of zeros.
-use Rattle.std.specs.Prelude.{◌≡◌, ℕ, ◌+◌, ◌-◌, ◌/◌, ◌%◌, ◌≤◌, ◌==◌, ◌&&◌, nat_le, nat_lt, Bool, false, List, length, map, slice_index, Option, Some, None, if◌then◌else◌}
+use Rattle.std.specs.Prelude.{◌≡◌, ℕ, ◌+◌, ◌-◌, ◌/◌, ◌%◌, ◌≤◌, ◌==◌, ◌&&◌, nat_le, nat_lt, Bool, false, if◌then◌else◌}
+use Rattle.std.specs.Prelude.{List, length, map, slice_index, Option, Some, None}
 use Rattle.std.specs.List.{list_all, range_with_len}
 use Rattle.std.specs.Map.{lookup}
 use Rattle.std.specs.Ordering.{nat_cmp}
@@ -35,3 +36,7 @@ AreZerosFrom blocks n = (k : ℕ) → n ≤ k → byte_at blocks k ≡ 0
 -- what stands at place k once these bytes are put from place at on, where another byte was
 abbrev pub byte_put : ℕ → List ℕ → ℕ → ℕ → ℕ
 byte_put at bytes k was = if nat_le at k && nat_lt k (at + length bytes) then slice_index bytes (k - at) else was
+
+-- these bytes are put from place at on over what each place had, and every other place keeps what it had
+abbrev pub PutsBytes : ℕ → List ℕ → (ℕ → ℕ) → (ℕ → ℕ) → Type 0
+PutsBytes at bytes old new = (k : ℕ) → new k ≡ byte_put at bytes k (old k)

@@ -1,7 +1,8 @@
 //! The blocks of a file that are kept, each with a byte that isn't 0.
 
-ghost use Rattle.std.specs.Prelude.{◌≡◌, ℕ, ◌+◌, ◌≤◌, ◌<◌, length, replicate, slice_index, option_copied, IfOk};
-ghost use Rattle.fs_plain.specs.Blocks.{byte_in, byte_put, is_blank};
+ghost use Rattle.std.specs.Prelude.{◌≡◌, ℕ, ◌+◌, ◌≤◌, ◌<◌, length, replicate, slice_index};
+ghost use Rattle.std.specs.Prelude.{option_copied, IfOk};
+ghost use Rattle.fs_plain.specs.Blocks.{PutsBytes, byte_in, is_blank};
 
 use crate::limits::BLOCK;
 use fs_types::Want;
@@ -40,7 +41,8 @@ fn zeros(alloc: Global) -> Result<Vec<u8>, AllocError>
 // The bytes of a block once more, zeros where none is kept.
 fn bytes_of(alloc: Global, block: Option<&Block>) -> Result<Vec<u8>, AllocError>
     ensures len { IfOk result (λ v. length v.items ≡ BLOCK) }
-    ensures bytes { IfOk result (λ v. (k : ℕ) → slice_index v.items k ≡ byte_in (option_copied block.entry) k) }
+    ensures bytes { IfOk result (λ v. (k : ℕ) → slice_index v.items k
+        ≡ byte_in (option_copied block.entry) k) }
 {
     match block {
         Some(block) => Vec::from_slice(alloc, &block.bytes),
@@ -52,7 +54,7 @@ fn bytes_of(alloc: Global, block: Option<&Block>) -> Result<Vec<u8>, AllocError>
 #[tactic(auto, using(crate::proofs::Blocks::part_laws))]
 fn put_over(all: &mut [u8], at: usize, bytes: &[u8])
     requires { at + length bytes.now ≤ length all.old }
-    ensures { (k : ℕ) → slice_index all.new k ≡ byte_put at bytes.now k (slice_index all.old k) }
+    ensures { PutsBytes at bytes.now (slice_index all.old) (slice_index all.new) }
 {
     all[at..at + bytes.len()].copy_from_slice(bytes);
 }
@@ -78,7 +80,8 @@ impl Block {
         bytes: &[u8],
     ) -> Result<Option<Block>, Want>
         requires { at + length bytes.now ≤ BLOCK }
-        ensures { IfOk result (λ b. (k : ℕ) → byte_in b k ≡ byte_put at bytes.now k (byte_in (option_copied block.entry) k)) }
+        ensures { IfOk result (λ b. PutsBytes at bytes.now
+            (byte_in (option_copied block.entry)) (byte_in b)) }
     {
         let mut all = bytes_of(alloc, block)?;
         put_over(&mut all, at, bytes);

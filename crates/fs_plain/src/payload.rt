@@ -1,6 +1,7 @@
 //! What a line writes, put over the bytes of a file, block by block.
 
-ghost use Rattle.std.specs.Prelude.{◌≡◌, ◌+◌, ◌-◌, ◌%◌, ◌≤◌, ◌<◌, length, take, drop, nat_le, IsSome, IfOk, OnOk};
+ghost use Rattle.std.specs.Prelude.{◌≡◌, ◌+◌, ◌-◌, ◌%◌, ◌≤◌, ◌<◌, length, take, drop, nat_le};
+ghost use Rattle.std.specs.Prelude.{IsSome, IfOk, OnOk};
 ghost use Rattle.fs_types.specs.Overwrite.{put};
 ghost use Rattle.fs_types.specs.PlainFile.{written};
 ghost use Rattle.fs_types.specs.declared.limits.TheConstants.{LONGEST_FILE};
@@ -36,7 +37,8 @@ fn put_piece(
     requires within { off + length (payload s.now n) ≤ LONGEST_FILE }
     ensures more { IfOk result (λ to. from < to) }
     ensures to_end { IfOk result (λ to. to ≤ length (payload s.now n)) }
-    ensures bytes { IfOk result (λ to. bytes.new ≡ put 0 bytes.old (off + from) (take (to - from) (drop from (payload s.now n)))) }
+    ensures bytes { IfOk result (λ to. bytes.new ≡ put 0 bytes.old (off + from)
+        (take (to - from) (drop from (payload s.now n)))) }
 {
     let count = rest_of_block(off + from).min(s.payload_len(n) - from);
     let mut piece = [0; BLOCK];

@@ -37,7 +37,8 @@ fn note_line(
     n: LineNo,
     pending: &mut Vec<LineNo>,
 ) -> Result<(), Want>
-    ensures { OnOk result (pending.new.items ≡ after (option_copied op.entry) (option_copied a.entry) n pending.old.items) }
+    ensures { OnOk result (pending.new.items
+        ≡ after (option_copied op.entry) (option_copied a.entry) n pending.old.items) }
 {
     match (op, a) {
         (Some(op), Some(a)) => note_answer(op, a, n, pending),

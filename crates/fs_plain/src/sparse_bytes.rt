@@ -1,9 +1,9 @@
 //! The bytes of a file, most of which may be 0.
 
-ghost use Rattle.std.specs.Prelude.{◌≡◌, ℕ, ◌+◌, ◌%◌, ◌≤◌, ◌<◌, [], length, slice_index, OnOk, OnErr};
+ghost use Rattle.std.specs.Prelude.{◌≡◌, ◌+◌, ◌%◌, ◌≤◌, ◌<◌, [], length, slice_index, OnOk, OnErr};
 ghost use Rattle.fs_types.specs.Overwrite.{put};
 ghost use Rattle.fs_types.specs.declared.limits.TheConstants.{LONGEST_FILE};
-ghost use Rattle.fs_plain.specs.Blocks.{byte_at, byte_put};
+ghost use Rattle.fs_plain.specs.Blocks.{PutsBytes, byte_at};
 
 use crate::block::Block;
 use crate::limits::BLOCK;
@@ -40,7 +40,8 @@ fn put_in_block(
     bytes: &[u8],
 ) -> Result<(), Want>
     requires { at % BLOCK + length bytes.now ≤ BLOCK }
-    ensures ok { OnOk result ((k : ℕ) → byte_at blocks.new.entries k ≡ byte_put at bytes.now k (byte_at blocks.old.entries k)) }
+    ensures ok { OnOk result (PutsBytes at bytes.now
+        (byte_at blocks.old.entries) (byte_at blocks.new.entries)) }
     ensures err { OnErr result (blocks.new.entries ≡ blocks.old.entries) }
 {
     let number = at / BLOCK as u64;

@@ -32,7 +32,8 @@ fn apply(
     op: &Op,
     file: &mut PlainFile,
 ) -> Result<(), Want>
-    ensures { OnOk result (file.new ≡ effect_of s.now (bytes_of s.now) op.now (pending_at s.now (answer_at a.now.list) n) file.old) }
+    ensures { let pending = pending_at s.now (answer_at a.now.list) n in
+        OnOk result (file.new ≡ effect_of s.now (bytes_of s.now) op.now pending file.old) }
 {
     match op {
         Op::Create => {
@@ -60,7 +61,8 @@ fn apply_line(
     n: LineNo,
     file: &mut PlainFile,
 ) -> Result<(), Want>
-    ensures { OnOk result (file.new ≡ effect s.now (bytes_of s.now) (answer_at a.now.list) n file.old) }
+    ensures { OnOk result (file.new
+        ≡ effect s.now (bytes_of s.now) (answer_at a.now.list) n file.old) }
 {
     match op_of(s, n) {
         Some(o) => apply(alloc, s, a, n, &o.op, file),

@@ -46,8 +46,8 @@ fn answer(answers: &mut Answers, n: u32, a: Answer) {
     }
 }
 
-// The answers of a job: which lines were done, at versions from 1 on, which writes were accepted, and
-// which would end past the longest file.
+// The answers of a job: which lines were done, at versions from 1 on, which writes were accepted,
+// and which would end past the longest file.
 fn answers_of(
     alloc: Global,
     done: &[u32],

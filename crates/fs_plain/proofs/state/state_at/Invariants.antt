@@ -7,4 +7,5 @@ use Rattle.fs_plain.proofs.state.state_at.Given as goal
 -- the lines that are left make of the file so far what all lines make of none
 abbrev pub invariant-loop-n : goal.invariant-loop-n
 invariant-loop-n l =
-    after_all l.s (bytes_of l.s) (answer_at l.a.list) (drop l.n-index l.j) l.file ≡ after_all l.s (bytes_of l.s) (answer_at l.a.list) l.j None
+    let after = after_all l.s (bytes_of l.s) (answer_at l.a.list) in
+    after (drop l.n-index l.j) l.file ≡ after l.j None
