@@ -15,9 +15,9 @@ use std::marker::Model;
 
 /// A file that is there.
 #[derive(Debug, Drop)]
-pub(crate) struct Content {
-    pub(crate) bytes: SparseBytes,
-    pub(crate) frozen: bool,
+struct Content {
+    bytes: SparseBytes,
+    frozen: bool,
 }
 
 /// A file, or none. A clause sees none, or the list of its bytes and whether it is frozen.
