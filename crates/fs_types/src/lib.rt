@@ -4,6 +4,7 @@
 
 mod answer;
 mod answers;
+mod attr;
 mod digest;
 mod file_state;
 mod laws;
@@ -17,6 +18,7 @@ mod want;
 
 pub use answer::{Answer, Body};
 pub use answers::Answers;
+pub use attr::Attr;
 pub use digest::Digest16;
 pub use file_state::FileState;
 pub use laws::{

@@ -1,0 +1,226 @@
+use super::*;
+use crate::sparse_bytes::SparseBytes;
+use fs_script::{Script, read_script};
+use fs_types::{Answer, Answers, Attr, LineNo, Path, Version, Want};
+use std::alloc::Global;
+use std::test::Fail;
+
+const FIVE_LINES: &[u8] = b"unifyfs 1 servers=1 clients=1 chunk=64 shmem=4 spill=0
+0 create /unifyfs/a
+0 write /unifyfs/a 0 t:hello
+0 sync /unifyfs/a
+0 read /unifyfs/a 1 3
+";
+
+// A write that ends with the longest file, and one that would end past it.
+const LONGEST: &[u8] = b"unifyfs 1 servers=1 clients=1 chunk=64 shmem=4 spill=0
+0 create /unifyfs/a
+0 write /unifyfs/a 1099511627775 t:x
+0 write /unifyfs/a 1099511627776 t:y
+0 sync /unifyfs/a
+";
+
+// A write into the last two bytes of a block and the first three of the next, and then one over
+// the end of the first.
+const TWO_BLOCKS: &[u8] = b"unifyfs 1 servers=1 clients=1 chunk=64 shmem=4 spill=0
+0 create /unifyfs/a
+0 write /unifyfs/a 4094 t:abcde
+0 sync /unifyfs/a
+0 write /unifyfs/a 4095 t:z
+0 sync /unifyfs/a
+0 create /unifyfs/a
+0 create /unifyfs/b
+";
+
+fn script_of(alloc: Global, text: &[u8]) -> Result<Script, Fail> {
+    let script = read_script(alloc, text)
+        .ok()
+        .ok_or("the bytes are a script")?;
+    Ok(script)
+}
+
+// Gives an answer to a line for which there is room.
+fn answer(answers: &mut Answers, n: u32, a: Answer) {
+    if 1 <= n && n <= answers.lines() {
+        answers.set(LineNo(n), a);
+    }
+}
+
+// The answers of a job: which lines were done, at versions from 1 on, which writes were accepted,
+// and which would end past the longest file.
+fn answers_of(
+    alloc: Global,
+    done: &[u32],
+    accepted: &[u32],
+    too_big: &[u32],
+) -> Result<Answers, Want> {
+    let mut answers = Answers::new(alloc, 16)?;
+    let mut v = 0u64;
+    for n in done {
+        v = v.saturating_add(1);
+        answer(&mut answers, *n, Answer::Done { v: Version(v) });
+    }
+    for n in accepted {
+        answer(&mut answers, *n, Answer::Wrote { slots: 1 });
+    }
+    for n in too_big {
+        answer(&mut answers, *n, Answer::TooBig);
+    }
+    Ok(answers)
+}
+
+fn lines_of(alloc: Global, lines: &[u32]) -> Result<Vec<LineNo>, Want> {
+    let mut all = Vec::new(alloc);
+    for n in lines {
+        all.push(LineNo(*n))?;
+    }
+    Ok(all)
+}
+
+// The byte at a place, or `None` from the file's end on.
+fn byte(file: &PlainFile, at: u64) -> Option<u8> {
+    if at < file.attr().size {
+        Some(file.byte(at))
+    } else {
+        None
+    }
+}
+
+#[test]
+fn five_lines_make_a_file(rt: HostRuntime) -> Result<(), Fail> {
+    let alloc = rt.alloc();
+    let script = script_of(alloc, FIVE_LINES)?;
+    let answers = answers_of(alloc, &[2, 4], &[3], &[])?;
+    let a = Path::read(alloc, b"/unifyfs/a")?;
+    let none = state_at(alloc, &script, &answers, &a, &[])?;
+    let no_file = Attr {
+        exists: false,
+        size: 0,
+        frozen: false,
+    };
+    assert_eq!(rt; none.attr(), no_file);
+    // Lines that are no operations, and a sync and a create that come too early and too late.
+    let journal = lines_of(alloc, &[0, 1, 4, 2, 3, 4, 2, 77])?;
+    let file = state_at(alloc, &script, &answers, &a, &journal)?;
+    let five_bytes = Attr {
+        exists: true,
+        size: 5,
+        frozen: false,
+    };
+    assert_eq!(rt; file.attr(), five_bytes);
+    for (at, want) in [(0, Some(b'h')), (4, Some(b'o')), (5, None)] {
+        assert_eq!(rt; byte(&file, at), want);
+    }
+    Ok(())
+}
+
+#[test]
+fn pending_writes_are_found(rt: HostRuntime) -> Result<(), Fail> {
+    let alloc = rt.alloc();
+    let script = script_of(alloc, TWO_BLOCKS)?;
+    let answers = answers_of(alloc, &[2, 4, 6], &[3, 5], &[])?;
+    for (n, want) in [(4, 3), (5, 0), (6, 5), (7, 0), (8, 0), (77, 0)] {
+        let pending = pending_of(alloc, &script, &answers, LineNo(n))?;
+        let first = pending.first().map_or(0, |line| line.0);
+        assert_eq!(rt; first, want);
+        assert!(rt; pending.len() <= 1);
+    }
+    Ok(())
+}
+
+#[test]
+fn fronts_are_by_path(rt: HostRuntime) -> Result<(), Fail> {
+    let alloc = rt.alloc();
+    let script = script_of(alloc, TWO_BLOCKS)?;
+    let answers = answers_of(alloc, &[2, 4, 6], &[3, 5], &[])?;
+    let mut journals = Journals::new(alloc);
+    let a = Path::read(alloc, b"/unifyfs/a")?;
+    let b = Path::read(alloc, b"/unifyfs/b")?;
+    journals.add(a, lines_of(alloc, &[2, 4, 6])?)?;
+    journals.add(b, lines_of(alloc, &[8])?)?;
+    for (n, want) in [(1, 0), (2, 0), (4, 1), (6, 2), (7, 3), (8, 0), (77, 0)] {
+        let front = front_of(&script, &answers, &journals, LineNo(n));
+        assert_eq!(rt; front, Version(want));
+    }
+    Ok(())
+}
+
+#[test]
+fn journals_of_two_paths_are_found(rt: HostRuntime) -> Result<(), Fail> {
+    let alloc = rt.alloc();
+    let a = Path::read(alloc, b"/unifyfs/a")?;
+    let b = Path::read(alloc, b"/unifyfs/b")?;
+    let c = Path::read(alloc, b"/unifyfs/c")?;
+    let mut journals = Journals::new(alloc);
+    journals.add(a.copy(alloc)?, lines_of(alloc, &[2, 4])?)?;
+    journals.add(b.copy(alloc)?, lines_of(alloc, &[3])?)?;
+    journals.add(a.copy(alloc)?, lines_of(alloc, &[5])?)?;
+    assert_eq!(rt; journals.len(), 3);
+    assert_eq!(rt; journals.of(&a), [LineNo(2), LineNo(4)].as_slice());
+    assert_eq!(rt; journals.of(&b), [LineNo(3)].as_slice());
+    assert!(rt; journals.of(&c).is_empty());
+    if journals.len() == 3 {
+        let (path, lines) = journals.at(2);
+        assert_eq!(rt; path.as_bytes(), a.as_bytes());
+        assert_eq!(rt; lines, [LineNo(5)].as_slice());
+    }
+    Ok(())
+}
+
+#[test]
+fn the_longest_file_keeps_one_block(rt: HostRuntime) -> Result<(), Fail> {
+    let alloc = rt.alloc();
+    let script = script_of(alloc, LONGEST)?;
+    let answers = answers_of(alloc, &[2, 5], &[3], &[4])?;
+    let a = Path::read(alloc, b"/unifyfs/a")?;
+    let journal = lines_of(alloc, &[2, 5])?;
+    let file = state_at(alloc, &script, &answers, &a, &journal)?;
+    assert_eq!(rt; file.attr().size, 1_099_511_627_776);
+    assert_eq!(rt; file.blocks(), 1);
+    for (at, want) in [
+        (0, Some(0)),
+        (1_099_511_627_774, Some(0)),
+        (1_099_511_627_775, Some(b'x')),
+        (1_099_511_627_776, None),
+    ] {
+        assert_eq!(rt; byte(&file, at), want);
+    }
+    Ok(())
+}
+
+#[test]
+fn bytes_are_put_over_two_blocks(rt: HostRuntime) -> Result<(), Fail> {
+    let alloc = rt.alloc();
+    let script = script_of(alloc, TWO_BLOCKS)?;
+    let answers = answers_of(alloc, &[2, 4, 6], &[3, 5], &[])?;
+    let a = Path::read(alloc, b"/unifyfs/a")?;
+    let journal = lines_of(alloc, &[2, 4, 6])?;
+    let file = state_at(alloc, &script, &answers, &a, &journal)?;
+    assert_eq!(rt; file.blocks(), 2);
+    for (at, want) in [
+        (0, Some(0)),
+        (4_093, Some(0)),
+        (4_094, Some(b'a')),
+        (4_095, Some(b'z')),
+        (4_096, Some(b'c')),
+        (4_098, Some(b'e')),
+        (4_099, None),
+    ] {
+        assert_eq!(rt; byte(&file, at), want);
+    }
+    Ok(())
+}
+
+#[test]
+fn blocks_of_zeros_are_not_kept(rt: HostRuntime) -> Result<(), Fail> {
+    let alloc = rt.alloc();
+    let mut bytes = SparseBytes::new(alloc);
+    assert_eq!(rt; bytes.blocks(), 0);
+    bytes.put(alloc, 5_000, &[0, 7, 0])?;
+    assert_eq!(rt; (bytes.len(), bytes.blocks()), (5_003, 1));
+    bytes.put(alloc, 5_001, &[0])?;
+    assert_eq!(rt; (bytes.len(), bytes.blocks()), (5_003, 0));
+    bytes.put(alloc, 9_000, &[0, 0])?;
+    assert_eq!(rt; (bytes.len(), bytes.blocks()), (9_002, 0));
+    Ok(())
+}
