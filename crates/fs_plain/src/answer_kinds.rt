@@ -11,27 +11,38 @@ pub fn version_of(a: &Answer) -> Option<Version>
 {
     match a {
         Answer::Done { v }
+        | Answer::Staged { v, .. }
+        | Answer::Sized { v, .. }
         | Answer::Shown { v, .. }
         | Answer::Exists { v }
         | Answer::NoEnt { v }
-        | Answer::ReadOnly { v } => Some(*v),
-        Answer::Wrote { .. } | Answer::BadF | Answer::TooBig => None,
+        | Answer::ReadOnly { v }
+        | Answer::TooBigAt { v } => Some(*v),
+        Answer::Wrote { .. }
+        | Answer::BadF
+        | Answer::TooBig
+        | Answer::NoSpace { .. }
+        | Answer::DevFault { .. } => None,
     }
 }
 
-/// Whether a write was accepted.
+/// Whether the bytes that a line brings were accepted.
 pub fn is_accepted(a: &Answer) -> bool
     ensures { result ≡ is_accepted a.now }
 {
     match a {
-        Answer::Wrote { .. } => true,
+        Answer::Wrote { .. } | Answer::Staged { .. } => true,
         Answer::Done { .. }
+        | Answer::Sized { .. }
         | Answer::Shown { .. }
         | Answer::BadF
         | Answer::Exists { .. }
         | Answer::NoEnt { .. }
         | Answer::ReadOnly { .. }
-        | Answer::TooBig => false,
+        | Answer::TooBig
+        | Answer::TooBigAt { .. }
+        | Answer::NoSpace { .. }
+        | Answer::DevFault { .. } => false,
     }
 }
 
@@ -42,10 +53,16 @@ pub fn empties(a: &Answer) -> bool
     match a {
         Answer::Done { .. }
         | Answer::Wrote { .. }
+        | Answer::Staged { .. }
+        | Answer::Sized { .. }
         | Answer::Shown { .. }
         | Answer::Exists { .. }
         | Answer::NoEnt { .. }
         | Answer::ReadOnly { .. } => true,
-        Answer::BadF | Answer::TooBig => false,
+        Answer::BadF
+        | Answer::TooBig
+        | Answer::TooBigAt { .. }
+        | Answer::NoSpace { .. }
+        | Answer::DevFault { .. } => false,
     }
 }

@@ -35,7 +35,7 @@ fn offset_of(op: &Op) -> Option<u64>
 {
     match op {
         Op::Write { off, .. } => Some(*off),
-        Op::Create | Op::Sync | Op::Read { .. } => None,
+        Op::Create | Op::Open | Op::Sync | Op::Read { .. } | Op::Size => None,
     }
 }
 

@@ -25,7 +25,7 @@ fn note_answer(op: &Op, a: &Answer, n: LineNo, pending: &mut Vec<LineNo>) -> Res
                 pending.clear();
             }
         }
-        Op::Create | Op::Read { .. } => {}
+        Op::Create | Op::Open | Op::Read { .. } | Op::Size => {}
     }
     Ok(())
 }

@@ -49,7 +49,7 @@ fn apply(
             }
             Ok(())
         }
-        Op::Write { .. } | Op::Read { .. } => Ok(()),
+        Op::Open | Op::Write { .. } | Op::Read { .. } | Op::Size => Ok(()),
     }
 }
 

@@ -93,21 +93,67 @@ F /unifyfs/a n=1099511627776 frozen=0 md5=2c7ab85a893283e98c931e9511add182
 end
 ";
 
+// Two clients and two phases, with what each answer has to be, whoever goes next.
+const TWO_CLIENTS: &[u8] = b"unifyfs 1 servers=2 clients=2 chunk=64 shmem=4 spill=0
+# Two clients and two phases. Client 0 makes a file and commits four bytes of a pattern to it.
+0 create /unifyfs/a
+0 write /unifyfs/a 0 p:7:4
+0 sync /unifyfs/a
+
+# What follows begins when all before it is done.
+barrier
+# The file is there, so client 1 neither makes nor opens it.
+1 create /unifyfs/a
+1 read /unifyfs/a 0 4
+# It makes one of its own, beside the other client's read.
+1 create /unifyfs/b
+1 write /unifyfs/b 2 t:hi
+1 sync /unifyfs/b
+0 read /unifyfs/a 1 2
+1 read /unifyfs/b 0 9
+";
+
+// The pattern of seed 7 is the bytes 7, 38, 69 and 100.
+const TWO_CLIENTS_REPORT: &[u8] = b"L 3 ok v=1
+L 4 ok slots=1
+L 5 ok v=2
+L 10 exists v=2
+L 11 badf
+L 13 ok v=1
+L 14 ok slots=1
+L 15 ok v=2
+L 16 ok v=2 n=2 hex=2645
+L 17 ok v=2 n=4 hex=00006869
+J /unifyfs/a 3 5
+F /unifyfs/a n=4 frozen=0 md5=60781e9e546435a1d0b9316e7954ead6
+J /unifyfs/b 13 15
+F /unifyfs/b n=4 frozen=0 md5=8d32ca7e67c623e158e98450528fcb91
+end
+";
+
 const NO_HEADER: &[u8] = b"0 create /unifyfs/a\n";
 
-// The second of its lines is that of another client, and the third is empty.
+// The third of its lines is that of another client, and the fourth is no operation.
 const SECOND_CLIENT: &[u8] = b"unifyfs 1 servers=1 clients=1 chunk=64 shmem=4 spill=0
-1 create /unifyfs/a
 
+1 create /unifyfs/a
+0 remove /unifyfs/a
+";
+
+const MANY_CLIENTS: &[u8] = b"unifyfs 1 servers=1 clients=65 chunk=64 shmem=4 spill=0\n0\n";
+
+const LONG_READ: &[u8] = b"unifyfs 1 servers=1 clients=1 chunk=64 shmem=4 spill=0
+0 read /unifyfs/a 0 16777217
+0
 ";
 
 const HEADER_REFUSED: &[u8] = b"refused header\n";
 
-const LINE_REFUSED: &[u8] = b"refused line=2 reason=op\n";
+const RANK_REFUSED: &[u8] = b"refused line=3 reason=rank\n";
 
 const USAGE: &[u8] = b"usage: unifyfs sim SEED | run | check NAME | load N | stage NAME\n";
 
-pub const CASES: [Case; 15] = [
+pub const CASES: [Case; 18] = [
     (SIM, FIVE_LINES, 1, Status::Done, FIVE_LINES_REPORT),
     (
         SIM_BY_THE_LAST_SEED,
@@ -118,12 +164,27 @@ pub const CASES: [Case; 15] = [
     ),
     (SIM, EACH_ROW, 1, Status::Done, EACH_ROW_REPORT),
     (SIM, LAST_PLACE, 1, Status::Done, LAST_PLACE_REPORT),
+    (SIM, TWO_CLIENTS, 1, Status::Done, TWO_CLIENTS_REPORT),
     (SIM, NO_OPERATION, 1, Status::Done, b"end\n"),
     (SIM, b"", 1, Status::Refused, HEADER_REFUSED),
     (SIM, NO_HEADER, 1, Status::Refused, HEADER_REFUSED),
-    (SIM, SECOND_CLIENT, 1, Status::Refused, LINE_REFUSED),
-    (SIM, b"\n", 65_536, Status::Refused, HEADER_REFUSED),
-    (SIM, b"\n", 65_537, Status::Refused, b"refused long\n"),
+    (SIM, SECOND_CLIENT, 1, Status::Refused, RANK_REFUSED),
+    (
+        SIM,
+        MANY_CLIENTS,
+        1,
+        Status::Refused,
+        b"refused limit line=1\n",
+    ),
+    (
+        SIM,
+        LONG_READ,
+        1,
+        Status::Refused,
+        b"refused limit line=2\n",
+    ),
+    (SIM, b"\n", 4_194_304, Status::Refused, HEADER_REFUSED),
+    (SIM, b"\n", 4_194_305, Status::Refused, b"refused long\n"),
     (&[], NO_OPERATION, 1, Status::Usage, USAGE),
     (&["sim"], NO_OPERATION, 1, Status::Usage, USAGE),
     (&["sim", "01"], NO_OPERATION, 1, Status::Usage, USAGE),
