@@ -79,6 +79,6 @@ empties (answers.Exists v) = true
 empties (answers.NoEnt v) = true
 empties (answers.ReadOnly v) = true
 empties answers.TooBig = false
-empties (answers.TooBigAt v) = true
+empties (answers.TooBigAt v) = false
 empties (answers.NoSpace need free) = false
 empties (answers.DevFault rank) = false

@@ -8,7 +8,8 @@ use Rattle.std.proofs.lemmas.List.Elements.{All-head, All-tail}
 use Rattle.fs_types.specs.AnswerList.{answer_at, IsRisingFrom}
 use Rattle.fs_types.specs.declared.answer.Answer.{Answer}
 use Rattle.fs_types.proofs.CallerLemmas.{answer_at-same, answer_at-other, cases_line, answer_at-rising_below}
-use Rattle.fs_script.specs.Text.{path_lines, answer_line, spaced, text}
+use Rattle.fs_script.specs.Text.{path_lines, answer_line, text}
+use Rattle.fs_script.specs.Grammar.{spaced}
 use Rattle.top_call.specs.JobReport.{path_text, journal_entry, file_entry, report_view}
 use Rattle.top_call.specs.declared.report.JobReport.{JobReport}
 use Rattle.top_call.specs.declared.report.PathReport.{PathReport}

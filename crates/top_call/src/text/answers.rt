@@ -2,7 +2,8 @@
 
 ghost use Rattle.std.specs.Prelude.{◌≡◌, ◌++◌, OnOk};
 ghost use Rattle.std.specs.List.{flat_map};
-ghost use Rattle.fs_script.specs.Text.{answer_line, answer_words, body_text, spaced};
+ghost use Rattle.fs_script.specs.Text.{answer_line, answer_words, body_text};
+ghost use Rattle.fs_script.specs.Grammar.{spaced};
 
 use super::parts::{append_flag, append_hex, append_number};
 use fs_types::{Answer, Answers, Body, LineNo, Want};

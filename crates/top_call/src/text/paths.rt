@@ -2,7 +2,8 @@
 
 ghost use Rattle.std.specs.Prelude.{◌≡◌, ◌∷◌, ◌++◌, OnOk};
 ghost use Rattle.std.specs.List.{flat_map};
-ghost use Rattle.fs_script.specs.Text.{entry_text, file_line, file_words, journal_line, spaced};
+ghost use Rattle.fs_script.specs.Text.{entry_text, file_line, file_words, journal_line};
+ghost use Rattle.fs_script.specs.Grammar.{spaced};
 ghost use Rattle.top_call.specs.JobReport.{path_text};
 
 use super::parts::{append_flag, append_hex, append_number};
