@@ -1,6 +1,6 @@
 -- What the answers before a line decide: its client's pending writes, the version it has seen, and whether its path is open.
 -- Answers that agree at that client's lines on that path before the line give the same.
-use Rattle.std.proofs.Common.{◌≡◌, ℕ, zero, suc, ◌≤◌, List, Option, Some, None, IsSome, Bool, bytes_eq, cond, refl, ap, ◌∙◌, arith}
+use Rattle.std.proofs.Common.{◌≡◌, ℕ, zero, suc, ◌≤◌, List, [], Option, Some, None, IsSome, bytes_eq, cond, refl, ap, ◌∙◌, arith}
 use Rattle.std.proofs.lemmas.Bool.{cond_both}
 use Rattle.std.proofs.lemmas.Bool.Decides.{nat_tests}
 use Rattle.fs_types.specs.declared.answer.Answer.{Answer}
@@ -11,9 +11,8 @@ use Rattle.fs_script.specs.declared.line.Op.{Op}
 use Rattle.fs_script.specs.declared.line.OpLine.{OpLine}
 use Rattle.fs_script.specs.Job.{Job, op_at, own_at}
 use Rattle.fs_script.specs.Payload.{Cells}
-use Rattle.fs_script.specs.Pending.{Answering, after, pending, pending_for, pending_at}
+use Rattle.fs_script.specs.Pending.{Answering, after_answer, one_more, over_answers, pending, pending_for, pending_at}
 use Rattle.fs_script.specs.Effect.{effect_in, effect}
-use Rattle.fs_script.specs.Front.{seen_after, seen, open_after, is_open}
 use Rattle.fs_script.specs.Journal.{commit_by, commit_in, committed}
 use Rattle.fs_script.specs.Growth.{AgreeBefore, AddsAnswer}
 
@@ -21,38 +20,20 @@ use Rattle.fs_script.specs.Growth.{AgreeBefore, AddsAnswer}
 pub AgreeBefore-earlier : (s : Job) (r : ℕ) (p : List ℕ) (A B : Answering) (m n : ℕ) → m ≤ n → AgreeBefore s r p A B n → AgreeBefore s r p A B m
 AgreeBefore-earlier s r p A B m n le h k below own = h k (omega arith) own
 
-AgreeBefore-less : (s : Job) (r : ℕ) (p : List ℕ) (A B : Answering) (n : ℕ) → AgreeBefore s r p A B (suc n) → AgreeBefore s r p A B n
-AgreeBefore-less s r p A B n h = AgreeBefore-earlier s r p A B n (suc n) (omega arith) h
-
-after-agree : (o : Option Op) (a b : Option Answer) (n : ℕ) (q : List ℕ) → (IsSome o → a ≡ b) → after o a n q ≡ after o b n q
-after-agree None a b n q h = refl
-after-agree (Some op) a b n q h = ap (λ x. after (Some op) x n q) (h refl)
-
-seen_after-agree : (o : Option Op) (a b : Option Answer) (m : ℕ) → (IsSome o → a ≡ b) → seen_after o a m ≡ seen_after o b m
-seen_after-agree None a b m h = refl
-seen_after-agree (Some op) a b m h = ap (λ x. seen_after (Some op) x m) (h refl)
-
-open_after-agree : (o : Option Op) (a b : Option Answer) (t : Bool) → (IsSome o → a ≡ b) → open_after o a t ≡ open_after o b t
-open_after-agree None a b t h = refl
-open_after-agree (Some op) a b t h = ap (λ x. open_after (Some op) x t) (h refl)
+-- so answers that agree before a line make the same of the same
+pub over_answers-agree : {X : Type 0} (step : Op → Answer → ℕ → X → X) (x : X) (s : Job) (r : ℕ) (p : List ℕ) (A B : Answering) (n : ℕ)
+    → AgreeBefore s r p A B n → over_answers step x s A r p n ≡ over_answers step x s B r p n
+over_answers-agree step x s r p A B zero h = refl
+over_answers-agree step x s r p A B (suc n) h =
+    one (own_at s r p n) (h n (omega arith))
+    ∙ ap (one_more step (own_at s r p n) (B n) n) (over_answers-agree step x s r p A B n (AgreeBefore-earlier s r p A B n (suc n) (omega arith) h))
+  where
+    one : (o : Option Op) → (IsSome o → A n ≡ B n) → one_more step o (A n) n (over_answers step x s A r p n) ≡ one_more step o (B n) n (over_answers step x s A r p n)
+    one None same = refl
+    one (Some op) same = ap (λ a. one_more step (Some op) a n (over_answers step x s A r p n)) (same refl)
 
 pub pending-agree : (s : Job) (r : ℕ) (p : List ℕ) (A B : Answering) (n : ℕ) → AgreeBefore s r p A B n → pending s A r p n ≡ pending s B r p n
-pending-agree s r p A B zero h = refl
-pending-agree s r p A B (suc n) h =
-    after-agree (own_at s r p n) (A n) (B n) n (pending s A r p n) (λ own. h n (omega arith) own)
-    ∙ ap (λ q. after (own_at s r p n) (B n) n q) (pending-agree s r p A B n (AgreeBefore-less s r p A B n h))
-
-pub seen-agree : (s : Job) (r : ℕ) (p : List ℕ) (A B : Answering) (n : ℕ) → AgreeBefore s r p A B n → seen s A r p n ≡ seen s B r p n
-seen-agree s r p A B zero h = refl
-seen-agree s r p A B (suc n) h =
-    seen_after-agree (own_at s r p n) (A n) (B n) (seen s A r p n) (λ own. h n (omega arith) own)
-    ∙ ap (λ m. seen_after (own_at s r p n) (B n) m) (seen-agree s r p A B n (AgreeBefore-less s r p A B n h))
-
-pub is_open-agree : (s : Job) (r : ℕ) (p : List ℕ) (A B : Answering) (n : ℕ) → AgreeBefore s r p A B n → is_open s A r p n ≡ is_open s B r p n
-is_open-agree s r p A B zero h = refl
-is_open-agree s r p A B (suc n) h =
-    open_after-agree (own_at s r p n) (A n) (B n) (is_open s A r p n) (λ own. h n (omega arith) own)
-    ∙ ap (λ t. open_after (own_at s r p n) (B n) t) (is_open-agree s r p A B n (AgreeBefore-less s r p A B n h))
+pending-agree = over_answers-agree after_answer []
 
 -- the effect of a line reads no answer but for what is pending at it
 pub effect-agree : {X : Type 0} (s : Job) (c : Cells X) (A B : Answering) (n : ℕ) (f : File X) → pending_at s A n ≡ pending_at s B n → effect s c A n f ≡ effect s c B n f

@@ -7,7 +7,7 @@ pub use Rattle.fs_script.proofs.Reading.Scripts.{script_is_job}
 pub use Rattle.fs_script.proofs.Fronts.{phase-rises}
 pub use Rattle.fs_script.proofs.Programs.{program-place, program-op}
 -- what one more answer leaves as it was
-pub use Rattle.fs_script.proofs.Agreement.{pending-agree, seen-agree, is_open-agree, AddsAnswer-put}
+pub use Rattle.fs_script.proofs.Agreement.{pending-agree, over_answers-agree, AddsAnswer-put}
 pub use Rattle.fs_script.proofs.JournalGrows.{own_op-rank, AgreeBefore-next, pending_at-answered, pending_at-next}
 -- the file at a version, as answers come and as the journal grows
 pub use Rattle.fs_script.proofs.States.{put_lines-append, state_in-agree, state_in-push, state_in-push_last}

@@ -18,7 +18,7 @@ use Rattle.fs_script.specs.Effect.{state}
 use Rattle.fs_script.specs.Front.{front}
 use Rattle.fs_script.specs.Fits.{IsNoLater, IsInReach, entry, AreTold, AgreesWithOpen, LineView, line_view, MayWrite, IsAtFront, Accepts, EndsPast, ShowsAsked, IsInTable, Fits}
 use Rattle.fs_script.specs.Growth.{AgreeBefore, SamePending}
-use Rattle.fs_script.proofs.Agreement.{pending-agree, is_open-agree}
+use Rattle.fs_script.proofs.Agreement.{pending-agree, over_answers-agree}
 use Rattle.fs_script.proofs.States.{state_in-agree, state_in-push}
 use Rattle.fs_script.proofs.Fronts.{front-agree, front-push}
 use Rattle.fs_script.proofs.PlainLists.{slice_get-push}
@@ -51,7 +51,7 @@ line_view-agree s A B J n o h same i = record {
 pub Fits-agree : (told : List ℕ) (s : Job) (A B : Answering) (J : List ℕ) (n : ℕ) (o : OpLine) (a : Answer) → AgreeBefore s o.rank o.path A B n → SamePending s A B J
     → Fits told s A J n o a → Fits told s B J n o a
 Fits-agree told s A B J n o a h same fits = record {
-  opened = subst (λ b. AgreesWithOpen o.op b a) (is_open-agree s o.rank o.path A B n h) fits.opened;
+  opened = subst (λ b. AgreesWithOpen o.op b a) (over_answers-agree _ _ s o.rank o.path A B n h) fits.opened;
   version = IfSome-agree s A B J n o (version_of a) h fits.version;
   answer = subst (λ w. IsInTable (AreTold s told) w o.op a) (line_view-agree s A B J n o h same) fits.answer;
 }

@@ -5,7 +5,7 @@ use Rattle.fs_script.specs.Job.{Job, is_barrier, phase}
 use Rattle.fs_script.specs.Pending.{Answering}
 use Rattle.fs_script.specs.Front.{seen, of_earlier_phases, front}
 use Rattle.fs_script.specs.Growth.{AgreeBefore}
-use Rattle.fs_script.proofs.Agreement.{seen-agree}
+use Rattle.fs_script.proofs.Agreement.{over_answers-agree}
 use Rattle.fs_script.proofs.PlainLists.{count_by-take-rises}
 
 pub phase-rises : (s : Job) (m n : ℕ) → m ≤ n → phase s m ≤ phase s n
@@ -24,4 +24,4 @@ pub front-push : (s : Job) (A : Answering) (J : List ℕ) (r : ℕ) (p : List �
 front-push s A J r p n m le = ap (λ k. max (seen s A r p n) k) (of_earlier_phases-push s n m J le)
 
 pub front-agree : (s : Job) (A B : Answering) (J : List ℕ) (r : ℕ) (p : List ℕ) (n : ℕ) → AgreeBefore s r p A B n → front s A J r p n ≡ front s B J r p n
-front-agree s A B J r p n h = ap (λ k. max k (of_earlier_phases s n J)) (seen-agree s r p A B n h)
+front-agree s A B J r p n h = ap (λ k. max k (of_earlier_phases s n J)) (over_answers-agree _ _ s r p A B n h)

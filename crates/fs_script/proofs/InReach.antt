@@ -10,9 +10,9 @@ use Rattle.fs_types.specs.declared.answer.Answer.{Answer}
 use Rattle.fs_script.specs.declared.line.OpLine.{OpLine}
 use Rattle.fs_script.specs.declared.line.Op.{Op}
 use Rattle.fs_script.specs.Job.{Job, op_at, rank_at, rank_in, own_op, own_at, phase}
-use Rattle.fs_script.specs.Pending.{Answering}
+use Rattle.fs_script.specs.Pending.{Answering, one_more}
 use Rattle.fs_script.specs.AnswerKinds.{version_of}
-use Rattle.fs_script.specs.Front.{at_least, seen_after, seen, front}
+use Rattle.fs_script.specs.Front.{at_least, seen, front}
 use Rattle.fs_script.specs.Fits.{IsNoLater, IsInReach}
 use Rattle.fs_script.specs.Journal.{IsLegalJournal}
 use Rattle.fs_script.specs.Growth.{AllFit, ComesNext, IsOfNoEarlierPhase}
@@ -27,17 +27,18 @@ at_least-le : (m k : ℕ) (v : Option ℕ) → m ≤ k → ((w : ℕ) → v ≡ 
 at_least-le m k None h each = h
 at_least-le m k (Some v) h each = let here = each v refl in omega arith
 
-seen_after-le : (o : Option Op) (a : Option Answer) (m k : ℕ) → m ≤ k → ((b : Answer) (v : ℕ) → IsSome o → a ≡ Some b → version_of b ≡ Some v → v ≤ k) → seen_after o a m ≤ k
-seen_after-le None a m k h each = h
-seen_after-le (Some op) None m k h each = h
-seen_after-le (Some op) (Some a) m k h each = at_least-le m k (version_of a) h (λ v is. each a v refl refl is)
-
 -- what each answer before the line printed bounds what its client has seen
 pub seen-le : (s : Job) (A : Answering) (r : ℕ) (p : List ℕ) (n k : ℕ)
     → ((m : ℕ) (a : Answer) (v : ℕ) → m < n → IsSome (own_at s r p m) → A m ≡ Some a → version_of a ≡ Some v → v ≤ k) → seen s A r p n ≤ k
 seen-le s A r p zero k each = omega arith
 seen-le s A r p (suc n) k each =
-    seen_after-le (own_at s r p n) (A n) (seen s A r p n) k (seen-le s A r p n k (λ m a v before. each m a v (omega arith))) (λ a v own given prints. each n a v (omega arith) own given prints)
+    one (own_at s r p n) (A n) (λ a v. each n a v (omega arith)) (seen-le s A r p n k (λ m a v before. each m a v (omega arith)))
+  where
+    one : (o : Option Op) (a : Option Answer) → ((b : Answer) (v : ℕ) → IsSome o → a ≡ Some b → version_of b ≡ Some v → v ≤ k)
+        → seen s A r p n ≤ k → one_more (λ op b i m. at_least m (version_of b)) o a n (seen s A r p n) ≤ k
+    one None a here h = h
+    one (Some op) None here h = h
+    one (Some op) (Some a) here h = at_least-le (seen s A r p n) k (version_of a) h (λ v is. here a v refl refl is)
 
 -- where no answer before the line printed more than the journal's length, its front isn't more
 pub front-le-length : (s : Job) (A : Answering) (J : List ℕ) (r : ℕ) (p : List ℕ) (n : ℕ)

@@ -1,12 +1,12 @@
 -- What an answer to the line that comes next changes of what its client knows, as seen from the script's end.
-use Rattle.std.proofs.Common.{◌≡◌, ℕ, zero, suc, ◌+◌, ◌-◌, ◌≤◌, Bool, List, [], ◌∷◌, Option, Some, None, IsSome, is_some, true≢false, refl, sym, ap, ◌∙◌, arith}
+use Rattle.std.proofs.Common.{◌≡◌, ℕ, zero, suc, ◌≤◌, List, [], ◌∷◌, Option, Some, None, IsSome, is_some, true≢false, refl, sym, ap, ◌∙◌, inl, inr, arith}
+use Rattle.std.proofs.lemmas.Bool.{cases_lt}
 use Rattle.std.specs.List.{AllByRecursion}
 use Rattle.fs_types.specs.declared.answer.Answer.{Answer}
 use Rattle.fs_script.specs.declared.line.Op.{Op}
 use Rattle.fs_script.specs.Job.{Job, own_at, rank_at}
 use Rattle.fs_script.specs.Payload.{bytes_of}
-use Rattle.fs_script.specs.Pending.{Answering, pending, after}
-use Rattle.fs_script.specs.Front.{seen, seen_after, is_open, open_after}
+use Rattle.fs_script.specs.Pending.{Answering, one_more, over_answers}
 use Rattle.fs_script.specs.Effect.{state}
 use Rattle.fs_script.specs.Growth.{AddsAnswer, ComesNext, AgreeBefore, SamePending}
 use Rattle.fs_script.proofs.CallerLemmas.{state_in-agree, pending_at-answered, some_of}
@@ -24,51 +24,19 @@ AgreeBefore-elsewhere s r p A B n a m adds none k below own =
 abbrev pub IsOpenFrom : Job → ℕ → List ℕ → Answering → ℕ → Type 0
 IsOpenFrom s r p A n = (k : ℕ) → n ≤ k → IsSome (own_at s r p k) → A k ≡ None
 
-after-none : (o : Option Op) (a : Option Answer) (n : ℕ) (q : List ℕ) → (IsSome o → a ≡ None) → after o a n q ≡ q
-after-none None a n q h = refl
-after-none (Some op) a n q h = ap (λ x. after (Some op) x n q) (h refl)
-
-seen_after-none : (o : Option Op) (a : Option Answer) (m : ℕ) → (IsSome o → a ≡ None) → seen_after o a m ≡ m
-seen_after-none None a m h = refl
-seen_after-none (Some op) a m h = ap (λ x. seen_after (Some op) x m) (h refl)
-
-open_after-none : (o : Option Op) (a : Option Answer) (b : Bool) → (IsSome o → a ≡ None) → open_after o a b ≡ b
-open_after-none None a b h = refl
-open_after-none (Some op) a b h = ap (λ x. open_after (Some op) x b) (h refl)
-
 -- so what it knows at a later line is what it knows at that line
-pending-later : (s : Job) (r : ℕ) (p : List ℕ) (A : Answering) (n k : ℕ) → IsOpenFrom s r p A n → pending s A r p (n + k) ≡ pending s A r p n
-pending-later s r p A n zero from = let e : n + 0 ≡ n = omega arith in ap (pending s A r p) e
-pending-later s r p A n (suc k) from =
-    let e : n + suc k ≡ suc (n + k) = omega arith in
-    ap (pending s A r p) e ∙ after-none (own_at s r p (n + k)) (A (n + k)) (n + k) (pending s A r p (n + k)) (from (n + k) (omega arith)) ∙ pending-later s r p A n k from
-
-pub pending-until : (s : Job) (r : ℕ) (p : List ℕ) (A : Answering) (n end : ℕ) → n ≤ end → IsOpenFrom s r p A n → pending s A r p end ≡ pending s A r p n
-pending-until s r p A n end le from =
-    let e : end ≡ n + (end - n) = omega arith in
-    ap (pending s A r p) e ∙ pending-later s r p A n (end - n) from
-
-seen-later : (s : Job) (r : ℕ) (p : List ℕ) (A : Answering) (n k : ℕ) → IsOpenFrom s r p A n → seen s A r p (n + k) ≡ seen s A r p n
-seen-later s r p A n zero from = let e : n + 0 ≡ n = omega arith in ap (seen s A r p) e
-seen-later s r p A n (suc k) from =
-    let e : n + suc k ≡ suc (n + k) = omega arith in
-    ap (seen s A r p) e ∙ seen_after-none (own_at s r p (n + k)) (A (n + k)) (seen s A r p (n + k)) (from (n + k) (omega arith)) ∙ seen-later s r p A n k from
-
-pub seen-until : (s : Job) (r : ℕ) (p : List ℕ) (A : Answering) (n end : ℕ) → n ≤ end → IsOpenFrom s r p A n → seen s A r p end ≡ seen s A r p n
-seen-until s r p A n end le from =
-    let e : end ≡ n + (end - n) = omega arith in
-    ap (seen s A r p) e ∙ seen-later s r p A n (end - n) from
-
-is_open-later : (s : Job) (r : ℕ) (p : List ℕ) (A : Answering) (n k : ℕ) → IsOpenFrom s r p A n → is_open s A r p (n + k) ≡ is_open s A r p n
-is_open-later s r p A n zero from = let e : n + 0 ≡ n = omega arith in ap (is_open s A r p) e
-is_open-later s r p A n (suc k) from =
-    let e : n + suc k ≡ suc (n + k) = omega arith in
-    ap (is_open s A r p) e ∙ open_after-none (own_at s r p (n + k)) (A (n + k)) (is_open s A r p (n + k)) (from (n + k) (omega arith)) ∙ is_open-later s r p A n k from
-
-pub is_open-until : (s : Job) (r : ℕ) (p : List ℕ) (A : Answering) (n end : ℕ) → n ≤ end → IsOpenFrom s r p A n → is_open s A r p end ≡ is_open s A r p n
-is_open-until s r p A n end le from =
-    let e : end ≡ n + (end - n) = omega arith in
-    ap (is_open s A r p) e ∙ is_open-later s r p A n (end - n) from
+pub over_answers-until : {X : Type 0} (step : Op → Answer → ℕ → X → X) (x : X) (s : Job) (r : ℕ) (p : List ℕ) (A : Answering) (n end : ℕ)
+    → n ≤ end → IsOpenFrom s r p A n → over_answers step x s A r p end ≡ over_answers step x s A r p n
+over_answers-until step x s r p A n zero le from = let e : zero ≡ n = omega arith in ap (over_answers step x s A r p) e
+over_answers-until step x s r p A n (suc m) le from =
+    elim (cases_lt m n) [
+      | inl past ↦ (let e : suc m ≡ n = omega arith in ap (over_answers step x s A r p) e)
+      | inr within ↦ one (own_at s r p m) (from m within) ∙ over_answers-until step x s r p A n m within from
+    ]
+  where
+    one : (o : Option Op) → (IsSome o → A m ≡ None) → one_more step o (A m) m (over_answers step x s A r p m) ≡ over_answers step x s A r p m
+    one None none = refl
+    one (Some op) none = ap (λ a. one_more step (Some op) a m (over_answers step x s A r p m)) (none refl)
 
 -- a line that comes next is open with all later ones of its client
 pub IsOpenFrom-next : (s : Job) (r : ℕ) (p : List ℕ) (A : Answering) (n : ℕ) → ComesNext s A n → rank_at s n ≡ Some r → ((k : ℕ) → IsSome (own_at s r p k) → rank_at s k ≡ Some r) → IsOpenFrom s r p A n

@@ -20,7 +20,7 @@ use Rattle.core_machine.specs.Moment.{IsFirst}
 use Rattle.core_machine.specs.Turns.{Places}
 use Rattle.core_machine.specs.MomentKept.{client_at, moment_of}
 use Rattle.core_machine.specs.Standing.{Holds, Stands, StandsForOwner, StandsForClient, end_of}
-use Rattle.core_machine.proofs.Refines.Answers.{pending-until, seen-until, is_open-until}
+use Rattle.core_machine.proofs.Refines.Answers.{over_answers-until}
 use Rattle.core_machine.proofs.Refines.Journals.{journal_kept}
 
 abbrev none : Answering
@@ -37,10 +37,10 @@ owner-fresh s now x fresh = record {
 
 client-fresh : (s : Job) (r : ℕ) (p : List ℕ) (x : OwnedPath) (k : ClientPath) → IsFreshOwner x → IsFreshClient k → StandsForClient s none r p x k
 client-fresh s r p x k owned fresh = record {
-  opened = fresh.is_open ∙ sym (is_open-until s r p none 0 (end_of s) (omega arith) (λ _ _ _. refl));
-  pending = rw fresh.pending refl ∙ sym (pending-until s r p none 0 (end_of s) (omega arith) (λ _ _ _. refl));
+  opened = fresh.is_open ∙ sym (over_answers-until _ _ s r p none 0 (end_of s) (omega arith) (λ _ _ _. refl));
+  pending = rw fresh.pending refl ∙ sym (over_answers-until _ _ s r p none 0 (end_of s) (omega arith) (λ _ _ _. refl));
   extents = rw fresh.pending tt;
-  seen = ap (λ n. n.version) fresh.noted ∙ sym (seen-until s r p none 0 (end_of s) (omega arith) (λ _ _ _. refl));
+  seen = ap (λ n. n.version) fresh.noted ∙ sym (over_answers-until _ _ s r p none 0 (end_of s) (omega arith) (λ _ _ _. refl));
   within = (let start = ap (λ n. n.version) fresh.noted in omega arith);
   known = rw (owned.journal, fresh.noted) refl;
 }

@@ -15,7 +15,7 @@ use Rattle.core_machine.specs.Event.{Known, PathNow, known_of}
 use Rattle.core_machine.specs.Kept.{kept_now, known_from, later_of}
 use Rattle.core_machine.specs.Standing.{StandsForOwner, StandsForClient, end_of}
 use Rattle.core_machine.specs.Step.{path_now}
-use Rattle.core_machine.proofs.Refines.Answers.{pending-until, seen-until, is_open-until}
+use Rattle.core_machine.proofs.Refines.Answers.{over_answers-until}
 use Rattle.core_machine.proofs.Refines.Clients.{IsOwn}
 
 later-version : (a b : Noted) → (later_of a b).version ≡ max a.version b.version
@@ -30,7 +30,7 @@ front-kept : (s : Job) (A : Answering) (now n : ℕ) (o : OpLine) (x : OwnedPath
     → (later_of k.noted x.board).version ≡ front s A x.journal.items o.rank o.path n
 front-kept s A now n o x k is own owned client =
     let lt = own.within in
-    let saw : k.noted.version ≡ seen s A o.rank o.path n = client.seen ∙ seen-until s o.rank o.path A n (end_of s) (omega arith) own.from in
+    let saw : k.noted.version ≡ seen s A o.rank o.path n = client.seen ∙ over_answers-until _ _ s o.rank o.path A n (end_of s) (omega arith) own.from in
     let told : x.board.version ≡ of_earlier_phases s n x.journal.items = owned.board ∙ ap (λ j. count_by (λ m. nat_lt (phase s m) j) x.journal.items) (sym is) in
     later-version k.noted x.board ∙ ap (λ v. max v x.board.version) saw ∙ ap (max (seen s A o.rank o.path n)) told
 
@@ -45,6 +45,6 @@ kept_now-is s A now n o x k is own owned client =
     let at = λ (v : ℕ). known_of (state s A J v) in
     let front = front-kept s A now n o x k is own owned client in
     same_now (kept_now s x k) (path_now s A J n o) owned.file refl
-    (client.pending ∙ pending-until s o.rank o.path A n (end_of s) (omega arith) own.from)
-    (client.opened ∙ is_open-until s o.rank o.path A n (end_of s) (omega arith) own.from)
+    (client.pending ∙ over_answers-until _ _ s o.rank o.path A n (end_of s) (omega arith) own.from)
+    (client.opened ∙ over_answers-until _ _ s o.rank o.path A n (end_of s) (omega arith) own.from)
     front (later-known at k.noted x.board client.known owned.known ∙ ap at front)

@@ -24,7 +24,7 @@ use Rattle.core_machine.specs.MomentKept.{after_line}
 use Rattle.core_machine.specs.Standing.{Holds, Stands, StandsForOwner, StandsForClient, end_of}
 use Rattle.core_machine.proofs.Paths.{place_unique, other_bytes}
 use Rattle.core_machine.proofs.Places.{StandsNext, comes_next, upto-own, upto-other}
-use Rattle.core_machine.proofs.Refines.Answers.{IsOpenFrom-next, pending-until}
+use Rattle.core_machine.proofs.Refines.Answers.{IsOpenFrom-next, over_answers-until}
 use Rattle.core_machine.proofs.Refines.Owners.{IsNewAnswer, StandsForOwner-own, StandsForOwner-other}
 use Rattle.core_machine.proofs.Refines.Clients.{Grows, IsOwn, StandsForClient-own, StandsForClient-other}
 use Rattle.core_machine.proofs.Refines.Journals.{slice_get-set_same, slice_get-set_other}
@@ -116,7 +116,7 @@ module _ {s : Job} {paths : List (List ℕ)} {states : List PathState} {answers 
   pends : pending_lines t.client ≡ pending s given t.line.rank t.line.path t.number
   pends =
       let lt = is_own.within in
-      client_stood.pending ∙ pending-until s t.line.rank t.line.path given t.number (end_of s) (omega arith) is_own.from
+      client_stood.pending ∙ over_answers-until _ _ s t.line.rank t.line.path given t.number (end_of s) (omega arith) is_own.from
 
   owner-after : StandsForOwner s given_then turns.phase t.then.owned
   owner-after = StandsForOwner-own s given given_then turns.phase t.number t.line t.answer t.was.owned t.then.owned t.client t.own is_answer pends t.follows t.sound stood.owned
