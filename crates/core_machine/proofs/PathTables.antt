@@ -1,30 +1,96 @@
 -- The paths of a script's lines: which they are, their order, and their places.
-use Rattle.std.proofs.Common.{◌≡◌, ℕ, zero, suc, ◌+◌, ◌-◌, ◌<◌, ◌≤◌, Bool, true, false, cond, ltb, ltb-false, not, List, [], ◌∷◌, ◌++◌, length, take, get_or, position, Option, Some, None, Contains, Vec, nat_eq, refl, sym, ap, subst, ◌∙◌, arith, true≢false, inl, inr}
-use Rattle.std.specs.Prelude.{fold, if◌then◌else◌, IfSome, IfNone, ◌⊎◌, ◌||◌}
-use Rattle.std.specs.List.{AllByRecursion, slice_get, list_any, prefix_len, position_or_len, IsDistinct}
-use Rattle.std.specs.List.Sorted.{IsSorted, IsStrictlySortedBy, IsPermutation}
-use Rattle.std.specs.Str.{bytes_eq}
-use Rattle.std.specs.Cmp.{IsTotalOrder, unsigned_ties}
-use Rattle.std.specs.Cmp.Lexicographic.{slice_cmp, pointwise, lists_ties}
-use Rattle.std.specs.Ordering.{nat_cmp, is_lt, is_eq, eq_by_cmp, ordering_reverse}
-use Rattle.std.specs.declared.cmp.Ordering.{Ordering}
-use Rattle.std.specs.declared.cmp.Ordering.TheVariants.{Less, Equal, Greater}
-use Rattle.std.proofs.lemmas.Cmp.{nat_list_cmp_total, nat_list_eq_equiv, on_total}
-use Rattle.std.proofs.lemmas.Map.Keys.{sorted_from_all_adjacent, apart_from_distinct, sorted_head, sorted_tail}
-use Rattle.std.proofs.lemmas.List.{map_push, length-map}
-use Rattle.std.proofs.lemmas.List.Elements.{Contains-append_left, Contains-push_cases}
-use Rattle.std.proofs.lemmas.List.Sorted.{IsPermutation-map, IsPermutation-sym, Contains-permutation}
-use Rattle.std.proofs.lemmas.List.Quantifiers.{position-Some}
-use Rattle.std.proofs.lemmas.List.Sums.{fails_before_first}
-use Rattle.std.proofs.lemmas.Option.{slice_get-get_or}
-use Rattle.std.proofs.lemmas.Slice.Eq.{bytes_eq-Decides}
+use Rattle.std.specs.List.Sorted.{IsStrictlySortedBy}
+use Rattle.fs_types.proofs.Common.{
+  ◌≡◌,
+  ℕ,
+  zero,
+  suc,
+  ◌+◌,
+  ◌-◌,
+  ◌<◌,
+  ◌≤◌,
+  Bool,
+  true,
+  false,
+  cond,
+  ltb,
+  ltb-false,
+  not,
+  List,
+  [],
+  ◌∷◌,
+  ◌++◌,
+  length,
+  take,
+  get_or,
+  position,
+  Option,
+  Some,
+  None,
+  Contains,
+  Vec,
+  nat_eq,
+  refl,
+  sym,
+  ap,
+  subst,
+  ◌∙◌,
+  arith,
+  true≢false,
+  inl,
+  inr,
+  fold,
+  if◌then◌else◌,
+  IfSome,
+  IfNone,
+  ◌⊎◌,
+  ◌||◌,
+  AllByRecursion,
+  slice_get,
+  list_any,
+  prefix_len,
+  position_or_len,
+  IsDistinct,
+  IsSorted,
+  IsPermutation,
+  bytes_eq,
+  IsTotalOrder,
+  unsigned_ties,
+  slice_cmp,
+  pointwise,
+  lists_ties,
+  nat_cmp,
+  is_lt,
+  is_eq,
+  eq_by_cmp,
+  ordering_reverse,
+  Ordering,
+  Less,
+  Equal,
+  Greater,
+  nat_list_cmp_total,
+  nat_list_eq_equiv,
+  on_total,
+  sorted_from_all_adjacent,
+  apart_from_distinct,
+  sorted_head,
+  sorted_tail,
+  map_push,
+  length-map,
+  Contains-append_left,
+  Contains-push_cases,
+  IsPermutation-map,
+  IsPermutation-sym,
+  Contains-permutation,
+  position-Some,
+  fails_before_first,
+  slice_get-get_or,
+  bytes_eq-Decides,
+}
 use Rattle.indexmap.specs.IndexSet.{insert_key}
+use Rattle.fs_script.specs.Vocabulary.{Job, Names, operation, op_at, AreRising, ArePaths}
+use Rattle.core_machine.specs.Vocabulary.{Line, OpLine, texts, with_path, with_op, with_path_of, paths_of}
 use Rattle.indexmap.proofs.CallerLemmas.{Contains-insert_key}
-use Rattle.fs_script.specs.declared.line.Line.{Line}
-use Rattle.fs_script.specs.declared.line.OpLine.{OpLine}
-use Rattle.fs_script.specs.Job.{Job, Names, operation, op_at}
-use Rattle.fs_script.specs.Report.{AreRising, ArePaths}
-use Rattle.core_machine.specs.PathTable.{texts, with_path, with_op, with_path_of, paths_of}
 
 -- ---- vectors, and their bytes
 module _ {A : Type 0} where

@@ -1,16 +1,40 @@
 -- Paths in byte order, their places, and what stands beside each.
-use Rattle.std.proofs.Common.{◌≡◌, ℕ, zero, suc, true, false, List, [], ◌∷◌, Some, refl, sym, ap, subst, ◌∙◌, arith, true≢false}
-use Rattle.std.specs.Prelude.{zip}
-use Rattle.std.specs.List.{AllByRecursion, Contains, slice_get}
-use Rattle.std.specs.Str.{bytes_eq}
-use Rattle.std.specs.Ordering.{nat_cmp, is_lt}
-use Rattle.std.specs.Cmp.Lexicographic.{slice_cmp}
-use Rattle.std.proofs.lemmas.Cmp.{tied_itself, nat_list_cmp_total}
-use Rattle.std.proofs.lemmas.Bool.{false_from_ne_true, cond-true, cond-false}
-use Rattle.std.proofs.lemmas.List.Elements.{Contains-append_right}
-use Rattle.std.proofs.lemmas.Option.{same_Some}
-use Rattle.std.proofs.lemmas.Slice.Eq.{bytes_eq-Decides}
-use Rattle.fs_script.specs.Report.{AreRising, journal_of}
+use Rattle.fs_types.proofs.Common.{
+  ◌≡◌,
+  ℕ,
+  zero,
+  suc,
+  true,
+  false,
+  List,
+  [],
+  ◌∷◌,
+  Some,
+  refl,
+  sym,
+  ap,
+  subst,
+  ◌∙◌,
+  arith,
+  true≢false,
+  zip,
+  AllByRecursion,
+  Contains,
+  slice_get,
+  bytes_eq,
+  nat_cmp,
+  is_lt,
+  slice_cmp,
+  tied_itself,
+  nat_list_cmp_total,
+  false_from_ne_true,
+  cond-true,
+  cond-false,
+  Contains-append_right,
+  same_Some,
+  bytes_eq-Decides,
+}
+use Rattle.fs_script.specs.Vocabulary.{AreRising, journal_of}
 
 -- a path is not below itself
 not_below_itself : (p : List ℕ) → is_lt (slice_cmp nat_cmp p p) ≡ true → ⊥

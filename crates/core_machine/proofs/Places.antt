@@ -1,15 +1,36 @@
 -- Clients whose lines were answered up to a place of their programs: the line that comes next, and what an answer changes.
-use Rattle.std.proofs.Common.{◌≡◌, ◌≢◌, ℕ, ◌+◌, ◌<◌, length, Option, Some, None, IsSome, is_some, slice_get, sym, ap, ◌∙◌, subst, refl, inl, inr, arith}
-use Rattle.std.proofs.lemmas.Bool.{cases_eq, ltb-true, lt-ltb, le-ltb}
-use Rattle.std.proofs.lemmas.Bool.Decides.{nat_tests}
-use Rattle.std.proofs.lemmas.Option.{same_Some, none-some}
-use Rattle.fs_types.specs.declared.answer.Answer.{Answer}
-use Rattle.fs_script.specs.declared.line.OpLine.{OpLine}
-use Rattle.fs_script.specs.Job.{Job, op_at, rank_in, rank_at, is_of_rank, program}
-use Rattle.fs_script.specs.Pending.{Answering}
-use Rattle.fs_script.specs.Growth.{AddsAnswer, ComesNext}
+use Rattle.fs_types.proofs.Common.{
+  ◌≡◌,
+  ◌≢◌,
+  ℕ,
+  ◌+◌,
+  ◌<◌,
+  length,
+  Option,
+  Some,
+  None,
+  IsSome,
+  is_some,
+  slice_get,
+  sym,
+  ap,
+  ◌∙◌,
+  subst,
+  refl,
+  inl,
+  inr,
+  arith,
+  cases_eq,
+  ltb-true,
+  lt-ltb,
+  le-ltb,
+  nat_tests,
+  same_Some,
+  none-some,
+}
+use Rattle.fs_script.specs.Vocabulary.{Answer, Job, op_at, rank_in, rank_at, is_of_rank, program, Answering, AddsAnswer, ComesNext}
+use Rattle.core_machine.specs.Vocabulary.{OpLine, IsAnsweredUpTo}
 use Rattle.fs_script.proofs.CallerLemmas.{none_from-is_some, passing-rise, passing-places, program-place, program-op}
-use Rattle.core_machine.specs.LegalSoFar.{IsAnsweredUpTo}
 
 -- client r's lines were answered up to the place, where line n stands
 pub record StandsNext (s : Job) (A : Answering) (r place n : ℕ) : Type 0 where

@@ -1,8 +1,6 @@
 -- The moment that what the core keeps stands for.
-use Rattle.std.specs.Prelude.{ℕ, ◌+◌, Bool, List, map, slice_index, slice_set}
-use Rattle.std.specs.List.{zip}
-use Rattle.fs_types.specs.AnswerList.{Given}
-use Rattle.fs_script.specs.Job.{Job}
+use Rattle.std.specs.Prelude.{ℕ, ◌+◌, Bool, List, map, slice_index, slice_set, zip}
+use Rattle.fs_script.specs.Vocabulary.{Given, Job}
 use Rattle.core_machine.specs.declared.path_state.PathState.{PathState}
 use Rattle.core_machine.specs.Doing.{nothing}
 use Rattle.core_machine.specs.Moment.{Client, Moment}

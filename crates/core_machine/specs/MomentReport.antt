@@ -1,6 +1,6 @@
 -- The report of a moment: its answers, its journals, and each path's file as it is then.
 use Rattle.std.specs.Prelude.{map}
-use Rattle.fs_script.specs.Report.{Report, file_state_of}
+use Rattle.fs_script.specs.Vocabulary.{Report, file_state_of}
 use Rattle.core_machine.specs.Moment.{Moment, file_now}
 
 abbrev pub report_of : Moment → Report

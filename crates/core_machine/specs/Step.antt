@@ -1,21 +1,15 @@
 -- One step of a simulated run: the client whose turn it is has one event, by what the definitions say of the moment.
 use Rattle.std.specs.Prelude.{ℕ, ◌+◌, false, List, length, is_some, Option, Some, None, slice_set, if◌then◌else◌}
-use Rattle.fs_types.specs.declared.answer.Answer.{Answer}
-use Rattle.fs_types.specs.AnswerList.{put_answer}
+use Rattle.fs_script.specs.Vocabulary.{Answer, put_answer, Job, op_at, data_bytes, Answering, pending, state, front, is_open}
 use Rattle.fs_script.specs.declared.line.OpLine.{OpLine}
 use Rattle.fs_script.specs.declared.line.Op.{Op}
-use Rattle.fs_script.specs.declared.line.Op.TheVariants as ops
-use Rattle.fs_script.specs.Job.{Job, op_at}
-use Rattle.fs_script.specs.Payload.{data_bytes}
-use Rattle.fs_script.specs.Pending.{Answering, pending}
-use Rattle.fs_script.specs.Effect.{state}
-use Rattle.fs_script.specs.Front.{front, is_open}
 use Rattle.core_machine.specs.Moment.{Client, Moment, answering, client_of, journal, next_line, with_entry}
 use Rattle.core_machine.specs.Event.{Event, PathNow, known_of}
 use Rattle.core_machine.specs.Events.Create.{create_event}
 use Rattle.core_machine.specs.Events.Write.{write_event}
 use Rattle.core_machine.specs.Events.Sync.{sync_event}
 use Rattle.core_machine.specs.Events.Read.{read_event}
+use Rattle.fs_script.specs.declared.line.Op.TheVariants as ops
 
 -- whose turn it is
 pub record Turn : Type 0 where

@@ -1,7 +1,7 @@
 -- Whose turn it may be: how far each client has come, and the phase that the run is in.
-use Rattle.std.specs.Prelude.{◌≡◌, ℕ, ◌≤◌, ◌<◌, ◌==◌, Bool, false, List, [], filter, slice_index, Option, Some, None}
-use Rattle.std.specs.List.{slice_get, range_with_len}
-use Rattle.fs_script.specs.Job.{Job, phase, program}
+use Rattle.std.specs.Prelude.{◌≡◌, ℕ, ◌≤◌, ◌<◌, ◌==◌, Bool, false, List, [], filter, slice_index, Option, Some, None, slice_get}
+use Rattle.std.specs.List.{range_with_len}
+use Rattle.fs_script.specs.Vocabulary.{Job, phase, program}
 
 pub record Places : Type 0 where
   pub job : Job

@@ -1,20 +1,53 @@
 -- What the answers before a line decide: its client's pending writes, the version it has seen, and whether its path is open.
 -- Answers that agree at that client's lines on that path before the line give the same.
-use Rattle.std.proofs.Common.{◌≡◌, ℕ, zero, suc, ◌≤◌, List, [], Option, Some, None, IsSome, bytes_eq, cond, refl, ap, ◌∙◌, arith}
-use Rattle.std.proofs.lemmas.Bool.{cond_both}
-use Rattle.std.proofs.lemmas.Bool.Decides.{nat_tests}
-use Rattle.fs_types.specs.declared.answer.Answer.{Answer}
-use Rattle.fs_types.specs.AnswerList.{answer_at, put_answer}
-use Rattle.fs_types.specs.PlainFile.{File}
+use Rattle.fs_types.proofs.Common.{
+  ◌≡◌,
+  ℕ,
+  zero,
+  suc,
+  ◌≤◌,
+  List,
+  [],
+  Option,
+  Some,
+  None,
+  IsSome,
+  bytes_eq,
+  cond,
+  refl,
+  ap,
+  ◌∙◌,
+  arith,
+  cond_both,
+  nat_tests,
+}
+use Rattle.fs_script.specs.Vocabulary.{
+  Answer,
+  answer_at,
+  put_answer,
+  File,
+  Op,
+  OpLine,
+  Job,
+  op_at,
+  own_at,
+  Cells,
+  Answering,
+  after_answer,
+  one_more,
+  over_answers,
+  pending,
+  pending_for,
+  pending_at,
+  effect_in,
+  effect,
+  commit_by,
+  commit_in,
+  committed,
+  AgreeBefore,
+  AddsAnswer,
+}
 use Rattle.fs_types.proofs.CallerLemmas.{answer_at-put_answer}
-use Rattle.fs_script.specs.declared.line.Op.{Op}
-use Rattle.fs_script.specs.declared.line.OpLine.{OpLine}
-use Rattle.fs_script.specs.Job.{Job, op_at, own_at}
-use Rattle.fs_script.specs.Payload.{Cells}
-use Rattle.fs_script.specs.Pending.{Answering, after_answer, one_more, over_answers, pending, pending_for, pending_at}
-use Rattle.fs_script.specs.Effect.{effect_in, effect}
-use Rattle.fs_script.specs.Journal.{commit_by, commit_in, committed}
-use Rattle.fs_script.specs.Growth.{AgreeBefore, AddsAnswer}
 
 -- agreement before a line is agreement before each earlier one
 pub AgreeBefore-earlier : (s : Job) (r : ℕ) (p : List ℕ) (A B : Answering) (m n : ℕ) → m ≤ n → AgreeBefore s r p A B n → AgreeBefore s r p A B m

@@ -1,22 +1,49 @@
 -- Two more scripts, worked out by hand: writes of nothing and refused creates, and pending writes over each other and past the end.
-use Rattle.std.proofs.Common.{◌≡◌, ℕ, zero, suc, List, [], ◌∷◌, ◌++◌, Some, None, false, slice_get, Contains, refl, subst, arith}
-use Rattle.std.specs.Prelude.{codes}
-use Rattle.std.proofs.lemmas.Option.{none-some, same_Some}
-use Rattle.fs_types.specs.declared.answer.Answer.{Answer}
+use Rattle.fs_types.proofs.Common.{
+  ◌≡◌,
+  ℕ,
+  zero,
+  suc,
+  List,
+  [],
+  ◌∷◌,
+  ◌++◌,
+  Some,
+  None,
+  false,
+  slice_get,
+  Contains,
+  refl,
+  subst,
+  arith,
+  codes,
+  none-some,
+  same_Some,
+}
+use Rattle.fs_script.specs.Vocabulary.{
+  Answer,
+  answer_at,
+  OpLine,
+  Text,
+  Job,
+  phase,
+  program,
+  op_lines,
+  Answering,
+  pending_at,
+  state,
+  front,
+  is_open,
+  Fits,
+  committed,
+  IsLegalEntry,
+  IsLegalJournal,
+}
+use Rattle.fs_script.proofs.FiveLines.{path_a, on_a, five_shape}
 use Rattle.fs_types.specs.declared.answer.Answer.TheVariants as answers
 use Rattle.fs_types.specs.declared.answer.Body.TheVariants as bodies
-use Rattle.fs_types.specs.AnswerList.{answer_at}
 use Rattle.fs_script.specs.declared.line.Line.TheVariants as lines
-use Rattle.fs_script.specs.declared.line.OpLine.{OpLine}
 use Rattle.fs_script.specs.declared.line.Op.TheVariants as ops
-use Rattle.fs_script.specs.declared.line.Data.TheVariants.{Text}
-use Rattle.fs_script.specs.Job.{Job, phase, program, op_lines}
-use Rattle.fs_script.specs.Pending.{Answering, pending_at}
-use Rattle.fs_script.specs.Effect.{state}
-use Rattle.fs_script.specs.Front.{front, is_open}
-use Rattle.fs_script.specs.Fits.{Fits}
-use Rattle.fs_script.specs.Journal.{committed, IsLegalEntry, IsLegalJournal}
-use Rattle.fs_script.proofs.FiveLines.{path_a, on_a, five_shape}
 
 -- ---- a write of nothing, a sync with nothing pending, and a create of what is there
 

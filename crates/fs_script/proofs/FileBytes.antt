@@ -1,23 +1,58 @@
 -- The files of a job: each is no longer than the longest, and its places are bytes.
-use Rattle.std.proofs.Common.{◌≡◌, ℕ, ◌<◌, ◌≤◌, true, List, [], ◌∷◌, length, take, Option, Some, None, IfSome, All, refl, arith}
-use Rattle.std.proofs.lemmas.Bool.{cond_both}
-use Rattle.std.proofs.lemmas.Bool.Decides.{nat_tests}
-use Rattle.std.proofs.lemmas.List.Elements.{All-nil, All-weaker}
-use Rattle.std.proofs.lemmas.List.Sums.{AllPass-from_list_all}
-use Rattle.fs_types.specs.declared.limits.TheConstants.{LONGEST_FILE}
-use Rattle.fs_types.specs.PlainFile.{File, written}
-use Rattle.fs_types.proofs.CallerLemmas.{All-written, length-written}
-use Rattle.fs_script.specs.declared.line.OpLine.{OpLine}
-use Rattle.fs_script.specs.declared.line.Op.{Op}
-use Rattle.fs_script.specs.declared.line.Op.TheVariants as ops
-use Rattle.fs_script.specs.declared.line.Data.TheVariants.{Text}
+use Rattle.fs_types.proofs.Common.{
+  ◌≡◌,
+  ℕ,
+  ◌<◌,
+  ◌≤◌,
+  true,
+  List,
+  [],
+  ◌∷◌,
+  length,
+  take,
+  Option,
+  Some,
+  None,
+  IfSome,
+  All,
+  refl,
+  arith,
+  cond_both,
+  nat_tests,
+  All-nil,
+  All-weaker,
+  AllPass-from_list_all,
+}
+use Rattle.fs_script.specs.Vocabulary.{
+  LONGEST_FILE,
+  File,
+  written,
+  OpLine,
+  Op,
+  Text,
+  Job,
+  op_at,
+  brought,
+  brought_in,
+  bytes_brought,
+  payload,
+  offset,
+  bytes_of,
+  Answering,
+  pending_at,
+  put_lines,
+  is_enabled,
+  makes,
+  effect_in,
+  effect,
+  after_all,
+  state,
+}
 use Rattle.fs_script.specs.TextBytes.{is_text_byte}
-use Rattle.fs_script.specs.Job.{Job, op_at}
-use Rattle.fs_script.specs.Payload.{brought, brought_in, bytes_brought, payload, offset, bytes_of}
 use Rattle.fs_script.specs.Grammar.{IsJob, IsOp, IsOpLine}
-use Rattle.fs_script.specs.Pending.{Answering, pending_at}
-use Rattle.fs_script.specs.Effect.{put_lines, is_enabled, makes, effect_in, effect, after_all, state}
+use Rattle.fs_types.proofs.CallerLemmas.{All-written, length-written}
 use Rattle.fs_script.proofs.Jobs.{IsOpLine-from_job}
+use Rattle.fs_script.specs.declared.line.Op.TheVariants as ops
 
 -- each is the number of a byte
 abbrev pub AllBytes : List ℕ → Type 0

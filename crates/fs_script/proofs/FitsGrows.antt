@@ -1,27 +1,75 @@
 -- An answer that fits goes on fitting: as answers come that change nothing before its line or pending at the journal's lines,
 -- and as the journal grows at its end by lines of no earlier phase.
-use Rattle.std.proofs.Common.{◌≡◌, ℕ, zero, suc, ◌≤◌, Bool, true, false, IsTrue, List, [], ◌∷◌, ◌++◌, length, Option, Some, None, IsSome, IsNone, IfSome, MatchBool, sym, subst, arith}
-use Rattle.std.specs.List.{AllByRecursion}
-use Rattle.std.proofs.lemmas.Option.{none-some}
-use Rattle.std.proofs.lemmas.List.{take-append-le, length_push}
-use Rattle.fs_types.specs.declared.answer.Answer.{Answer}
-use Rattle.fs_types.specs.declared.answer.Answer.TheVariants as answers
-use Rattle.fs_types.specs.PlainFile.{File, is_open_to_change, is_frozen}
-use Rattle.fs_script.specs.declared.line.OpLine.{OpLine}
-use Rattle.fs_script.specs.declared.line.Op.{Op}
-use Rattle.fs_script.specs.Job.{Job, phase}
-use Rattle.fs_script.specs.Payload.{Write, brought, bytes_of}
-use Rattle.fs_script.specs.Operations.{asked, commits}
-use Rattle.fs_script.specs.AnswerKinds.{version_of}
-use Rattle.fs_script.specs.Pending.{Answering}
-use Rattle.fs_script.specs.Effect.{state}
-use Rattle.fs_script.specs.Front.{front}
-use Rattle.fs_script.specs.Fits.{IsNoLater, IsInReach, entry, AreTold, AgreesWithOpen, LineView, line_view, MayWrite, IsAtFront, Accepts, EndsPast, ShowsAsked, IsInTable, Fits}
-use Rattle.fs_script.specs.Growth.{AgreeBefore, SamePending}
+use Rattle.fs_types.proofs.Common.{
+  ◌≡◌,
+  ℕ,
+  zero,
+  suc,
+  ◌≤◌,
+  Bool,
+  true,
+  false,
+  IsTrue,
+  List,
+  [],
+  ◌∷◌,
+  ◌++◌,
+  length,
+  Option,
+  Some,
+  None,
+  IsSome,
+  IsNone,
+  IfSome,
+  MatchBool,
+  sym,
+  subst,
+  arith,
+  AllByRecursion,
+  none-some,
+  take-append-le,
+  length_push,
+}
+use Rattle.fs_script.specs.Vocabulary.{
+  Answer,
+  File,
+  is_open_to_change,
+  is_frozen,
+  OpLine,
+  Op,
+  Job,
+  phase,
+  Write,
+  brought,
+  bytes_of,
+  asked,
+  commits,
+  version_of,
+  Answering,
+  state,
+  front,
+  IsNoLater,
+  IsInReach,
+  entry,
+  AreTold,
+  AgreesWithOpen,
+  LineView,
+  line_view,
+  MayWrite,
+  IsAtFront,
+  Accepts,
+  EndsPast,
+  ShowsAsked,
+  IsInTable,
+  Fits,
+  AgreeBefore,
+  SamePending,
+}
 use Rattle.fs_script.proofs.Agreement.{pending-agree, over_answers-agree}
 use Rattle.fs_script.proofs.States.{state_in-agree, state_in-push}
 use Rattle.fs_script.proofs.Fronts.{front-agree, front-push}
 use Rattle.fs_script.proofs.PlainLists.{slice_get-push}
+use Rattle.fs_types.specs.declared.answer.Answer.TheVariants as answers
 
 -- ---- answers come
 

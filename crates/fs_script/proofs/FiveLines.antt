@@ -1,24 +1,52 @@
 -- The script of five lines, read, and its states, fronts and pending writes, worked out by hand.
-use Rattle.std.proofs.Common.{◌≡◌, ℕ, ◌++◌, List, [], ◌∷◌, Some, None, Ok, zero, suc, ◌<◌, ◌≤◌, Contains, slice_get, false, refl, subst, arith}
-use Rattle.std.specs.Prelude.{codes}
-use Rattle.std.proofs.lemmas.Option.{none-some, same_Some}
-use Rattle.fs_types.specs.declared.answer.Answer.{Answer}
+use Rattle.fs_types.proofs.Common.{
+  ◌≡◌,
+  ℕ,
+  ◌++◌,
+  List,
+  [],
+  ◌∷◌,
+  Some,
+  None,
+  Ok,
+  zero,
+  suc,
+  ◌<◌,
+  ◌≤◌,
+  Contains,
+  slice_get,
+  false,
+  refl,
+  subst,
+  arith,
+  codes,
+  none-some,
+  same_Some,
+}
+use Rattle.fs_script.specs.Vocabulary.{
+  Answer,
+  Op,
+  OpLine,
+  Shape,
+  Text,
+  Job,
+  rank_at,
+  phase,
+  Answering,
+  pending_at,
+  state,
+  front,
+  Fits,
+  committed,
+  IsLegalEntry,
+  IsLegalJournal,
+  answer_at,
+}
+use Rattle.fs_script.specs.Reading.{job_of}
 use Rattle.fs_types.specs.declared.answer.Answer.TheVariants as answers
 use Rattle.fs_types.specs.declared.answer.Body.TheVariants as bodies
 use Rattle.fs_script.specs.declared.line.Line.TheVariants as lines
-use Rattle.fs_script.specs.declared.line.Op.{Op}
-use Rattle.fs_script.specs.declared.line.OpLine.{OpLine}
-use Rattle.fs_script.specs.declared.shape.Shape.{Shape}
 use Rattle.fs_script.specs.declared.line.Op.TheVariants as ops
-use Rattle.fs_script.specs.declared.line.Data.TheVariants.{Text}
-use Rattle.fs_script.specs.Job.{Job, rank_at, phase}
-use Rattle.fs_script.specs.Pending.{Answering, pending_at}
-use Rattle.fs_script.specs.Effect.{state}
-use Rattle.fs_script.specs.Front.{front}
-use Rattle.fs_script.specs.Fits.{Fits}
-use Rattle.fs_script.specs.Journal.{committed, IsLegalEntry, IsLegalJournal}
-use Rattle.fs_script.specs.Reading.{job_of}
-use Rattle.fs_types.specs.AnswerList.{answer_at}
 
 abbrev pub path_a : List ℕ
 path_a = codes "/unifyfs/a"

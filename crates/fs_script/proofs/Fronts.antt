@@ -1,10 +1,26 @@
 -- Phases rise with the lines, and a front doesn't change while the journal grows by lines of no earlier phase.
-use Rattle.std.proofs.Common.{◌≡◌, ℕ, ◌+◌, ◌-◌, ◌≤◌, List, [], ◌∷◌, ◌++◌, length, max, cond, nat_lt, ap, ◌∙◌, le-ltb, arith}
-use Rattle.std.proofs.lemmas.List.Sums.{sum_by_push, count_by-le-length}
-use Rattle.fs_script.specs.Job.{Job, is_barrier, phase}
-use Rattle.fs_script.specs.Pending.{Answering}
-use Rattle.fs_script.specs.Front.{seen, of_earlier_phases, front}
-use Rattle.fs_script.specs.Growth.{AgreeBefore}
+use Rattle.fs_types.proofs.Common.{
+  ◌≡◌,
+  ℕ,
+  ◌+◌,
+  ◌-◌,
+  ◌≤◌,
+  List,
+  [],
+  ◌∷◌,
+  ◌++◌,
+  length,
+  max,
+  cond,
+  nat_lt,
+  ap,
+  ◌∙◌,
+  le-ltb,
+  arith,
+  sum_by_push,
+  count_by-le-length,
+}
+use Rattle.fs_script.specs.Vocabulary.{Job, is_barrier, phase, Answering, seen, of_earlier_phases, front, AgreeBefore}
 use Rattle.fs_script.proofs.Agreement.{over_answers-agree}
 use Rattle.fs_script.proofs.PlainLists.{count_by-take-rises}
 

@@ -1,25 +1,65 @@
 -- A line that is answered now: its front is at most the present length of the journal, and which versions it may print.
-use Rattle.std.proofs.Common.{◌≡◌, ℕ, zero, suc, ◌≤◌, ◌<◌, List, [], ◌∷◌, length, Option, Some, None, IsSome, ◌++◌, ◌==◌, ◌&&◌, bytes_eq, eqb-true, refl, sym, ap, ◌∙◌, arith}
-use Rattle.std.specs.Prelude.{⊤}
-use Rattle.std.proofs.lemmas.Option.{none-some, cond_some, MatchOption-at_some}
-use Rattle.std.proofs.lemmas.Bool.{and_parts}
-use Rattle.std.proofs.lemmas.List.{length_push}
-use Rattle.std.proofs.lemmas.Slice.Eq.{bytes_eq-Decides}
-use Rattle.std.specs.List.{AllByRecursion}
-use Rattle.fs_types.specs.declared.answer.Answer.{Answer}
-use Rattle.fs_script.specs.declared.line.OpLine.{OpLine}
-use Rattle.fs_script.specs.declared.line.Op.{Op}
-use Rattle.fs_script.specs.Job.{Job, op_at, rank_at, rank_in, own_op, own_at, phase}
-use Rattle.fs_script.specs.Pending.{Answering, one_more}
-use Rattle.fs_script.specs.AnswerKinds.{version_of}
-use Rattle.fs_script.specs.Front.{at_least, seen, front}
-use Rattle.fs_script.specs.Fits.{IsNoLater, IsInReach}
-use Rattle.fs_script.specs.Journal.{IsLegalJournal}
-use Rattle.fs_script.specs.Growth.{AllFit, ComesNext, IsOfNoEarlierPhase}
+use Rattle.fs_types.proofs.Common.{
+  ◌≡◌,
+  ℕ,
+  zero,
+  suc,
+  ◌≤◌,
+  ◌<◌,
+  List,
+  [],
+  ◌∷◌,
+  length,
+  Option,
+  Some,
+  None,
+  IsSome,
+  ◌++◌,
+  ◌==◌,
+  ◌&&◌,
+  bytes_eq,
+  eqb-true,
+  refl,
+  sym,
+  ap,
+  ◌∙◌,
+  arith,
+  ⊤,
+  none-some,
+  cond_some,
+  MatchOption-at_some,
+  and_parts,
+  length_push,
+  bytes_eq-Decides,
+  AllByRecursion,
+}
+use Rattle.fs_script.specs.Vocabulary.{
+  Answer,
+  OpLine,
+  Op,
+  Job,
+  op_at,
+  rank_at,
+  rank_in,
+  own_op,
+  own_at,
+  phase,
+  Answering,
+  one_more,
+  version_of,
+  at_least,
+  seen,
+  front,
+  IsNoLater,
+  IsInReach,
+  IsLegalJournal,
+  AllFit,
+  ComesNext,
+  IsOfNoEarlierPhase,
+}
 use Rattle.fs_script.proofs.Fronts.{of_earlier_phases-le-length, front-push}
 use Rattle.fs_script.proofs.JournalGrows.{answered-in_journal}
-use Rattle.fs_script.proofs.PlainLists.{AllByRecursion-from_get, AllByRecursion-at, AllByRecursion-take, some_of}
-use Rattle.fs_script.proofs.PlainLists.{AllByRecursion-push}
+use Rattle.fs_script.proofs.PlainLists.{AllByRecursion-from_get, AllByRecursion-at, AllByRecursion-take, some_of, AllByRecursion-push}
 
 -- ---- the front
 

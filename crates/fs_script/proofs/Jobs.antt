@@ -1,14 +1,27 @@
 -- What a job within the limits says of each of its lines.
-use Rattle.std.proofs.Common.{◌≡◌, ℕ, zero, suc, ◌+◌, ◌<◌, ◌≤◌, List, [], ◌∷◌, length, Some, inl, subst, arith}
-use Rattle.std.specs.List.{slice_get, AllByRecursion}
-use Rattle.std.proofs.lemmas.Option.{same_Some}
-use Rattle.fs_script.specs.declared.shape.Shape.{Shape}
-use Rattle.fs_script.specs.declared.line.Line.{Line}
-use Rattle.fs_script.specs.declared.line.Line.TheVariants as lines
-use Rattle.fs_script.specs.declared.line.OpLine.{OpLine}
-use Rattle.fs_script.specs.Job.{Job, operation, op_at}
-use Rattle.fs_script.specs.Fits.{AreTold}
+use Rattle.fs_types.proofs.Common.{
+  ◌≡◌,
+  ℕ,
+  zero,
+  suc,
+  ◌+◌,
+  ◌<◌,
+  ◌≤◌,
+  List,
+  [],
+  ◌∷◌,
+  length,
+  Some,
+  inl,
+  subst,
+  arith,
+  slice_get,
+  AllByRecursion,
+  same_Some,
+}
+use Rattle.fs_script.specs.Vocabulary.{Shape, Line, OpLine, Job, operation, op_at, AreTold}
 use Rattle.fs_script.specs.Grammar.{IsJob, IsLine, IsOpLine}
+use Rattle.fs_script.specs.declared.line.Line.TheVariants as lines
 
 at_head : (h : Shape) (l : Line) (o : OpLine) → IsLine h l → operation (Some l) ≡ Some o → IsOpLine h o
 at_head h lines.Note o is e = absurd is

@@ -1,20 +1,75 @@
 -- A legal journal stays legal as an answer comes: unchanged where the answer commits nothing, and with the line at its end where it does.
-use Rattle.std.proofs.Common.{◌≡◌, ◌≢◌, ℕ, suc, ◌≤◌, ◌<◌, true, List, [], ◌∷◌, ◌++◌, length, Option, Some, None, IsSome, is_some, cond, ◌==◌, ◌&&◌, bytes_eq, slice_get, Contains, true≢false, eqb-true, refl, sym, ap, ◌∙◌, subst, subst₂, inl, inr, arith}
-use Rattle.std.proofs.lemmas.Bool.{cases_eq, cases_Bool, and_parts}
-use Rattle.std.proofs.lemmas.Option.{none-some, slice_get_within}
-use Rattle.std.proofs.lemmas.List.Elements.{Contains-append_left, Contains-push}
-use Rattle.fs_types.specs.declared.answer.Answer.{Answer}
-use Rattle.fs_script.specs.declared.line.OpLine.{OpLine}
-use Rattle.fs_script.specs.Job.{Job, op_at, rank_at, rank_in, own_op, phase}
-use Rattle.fs_script.specs.Payload.{bytes_of}
-use Rattle.fs_script.specs.Pending.{Answering, pending_for, pending_at}
-use Rattle.fs_script.specs.Effect.{is_enabled, state}
-use Rattle.fs_script.specs.Journal.{committed, enabled_in, IsLegalEntry, IsLegalJournal}
-use Rattle.fs_script.specs.Growth.{AgreeBefore, AddsAnswer, ComesNext, IsOfNoEarlierPhase, SamePending}
+use Rattle.fs_types.proofs.Common.{
+  ◌≡◌,
+  ◌≢◌,
+  ℕ,
+  suc,
+  ◌≤◌,
+  ◌<◌,
+  true,
+  List,
+  [],
+  ◌∷◌,
+  ◌++◌,
+  length,
+  Option,
+  Some,
+  None,
+  IsSome,
+  is_some,
+  cond,
+  ◌==◌,
+  ◌&&◌,
+  bytes_eq,
+  slice_get,
+  Contains,
+  true≢false,
+  eqb-true,
+  refl,
+  sym,
+  ap,
+  ◌∙◌,
+  subst,
+  subst₂,
+  inl,
+  inr,
+  arith,
+  cases_eq,
+  cases_Bool,
+  and_parts,
+  none-some,
+  slice_get_within,
+  Contains-append_left,
+  Contains-push,
+}
+use Rattle.fs_script.specs.Vocabulary.{
+  Answer,
+  OpLine,
+  Job,
+  op_at,
+  rank_at,
+  rank_in,
+  own_op,
+  phase,
+  bytes_of,
+  Answering,
+  pending_for,
+  pending_at,
+  is_enabled,
+  state,
+  committed,
+  enabled_in,
+  IsLegalEntry,
+  IsLegalJournal,
+  AgreeBefore,
+  AddsAnswer,
+  ComesNext,
+  IsOfNoEarlierPhase,
+  SamePending,
+}
 use Rattle.fs_script.proofs.Agreement.{pending-agree, committed-agree, committed-unanswered}
-use Rattle.fs_script.proofs.PlainLists.{AllByRecursion-at, slice_get-push_cases, slice_get-push_below}
+use Rattle.fs_script.proofs.PlainLists.{AllByRecursion-at, slice_get-push_cases, slice_get-push_below, AllByRecursion-from_get, some_of}
 use Rattle.fs_script.proofs.States.{state_in-agree, state_in-push}
-use Rattle.fs_script.proofs.PlainLists.{AllByRecursion-from_get, some_of}
 
 -- ---- what an answer leaves as it was
 

@@ -1,26 +1,79 @@
 -- A legal report of a job is printable, where the bytes that it shows are compared.
-use Rattle.std.proofs.Common.{◌≡◌, ℕ, ◌+◌, ◌^◌, ◌<◌, true, false, List, [], ◌∷◌, length, map, get_or, take, Some, IsSome, is_some, None, bytes_eq, Ordering, Less, Equal, Greater, refl, sym, ap, ◌∙◌, subst, All, arith}
-use Rattle.std.specs.List.{AllByRecursion, range_with_len}
-use Rattle.std.specs.Ordering.{nat_cmp, is_lt, is_eq}
-use Rattle.std.specs.Cmp.Lexicographic.{slice_cmp}
-use Rattle.std.proofs.lemmas.Bool.{cond-true, cond-false}
-use Rattle.std.proofs.lemmas.List.{length-map}
-use Rattle.std.proofs.lemmas.List.Elements.{All-from_recursion, recursion_from_All, All-weaker, All-contains_itself, filter_passes}
-use Rattle.std.proofs.lemmas.Map.Text.{is_eq-slice_cmp}
-use Rattle.std.proofs.lemmas.Option.{same_Some}
-use Rattle.std.proofs.lemmas.Slice.Eq.{bytes_eq-Decides}
-use Rattle.fs_types.specs.declared.answer.Answer.{Answer}
-use Rattle.fs_types.specs.declared.file_state.FileState.{FileState}
-use Rattle.fs_types.specs.PathText.{IsPath}
-use Rattle.fs_types.specs.PlainFile.{File}
-use Rattle.fs_types.proofs.CallerLemmas.{answer_at-each}
-use Rattle.fs_script.specs.declared.limits.TheConstants.{DIGEST_LIMIT}
-use Rattle.fs_script.specs.Job.{Job, op_at, Names}
-use Rattle.fs_script.specs.Effect.{state}
-use Rattle.fs_script.specs.Fits.{AreTold}
+use Rattle.fs_types.proofs.Common.{
+  ◌≡◌,
+  ℕ,
+  ◌+◌,
+  ◌^◌,
+  ◌<◌,
+  true,
+  false,
+  List,
+  [],
+  ◌∷◌,
+  length,
+  map,
+  get_or,
+  take,
+  Some,
+  IsSome,
+  is_some,
+  None,
+  bytes_eq,
+  Ordering,
+  Less,
+  Equal,
+  Greater,
+  refl,
+  sym,
+  ap,
+  ◌∙◌,
+  subst,
+  All,
+  arith,
+  AllByRecursion,
+  range_with_len,
+  nat_cmp,
+  is_lt,
+  is_eq,
+  slice_cmp,
+  cond-true,
+  cond-false,
+  length-map,
+  All-from_recursion,
+  recursion_from_All,
+  All-weaker,
+  All-contains_itself,
+  filter_passes,
+  is_eq-slice_cmp,
+  same_Some,
+  bytes_eq-Decides,
+}
+use Rattle.fs_script.specs.Vocabulary.{
+  Answer,
+  FileState,
+  IsPath,
+  File,
+  DIGEST_LIMIT,
+  Job,
+  op_at,
+  Names,
+  state,
+  AreTold,
+  Report,
+  journal_of,
+  AreRising,
+  file_state_of,
+  IsLegal,
+  answers_of,
+  IsPrintableAnswer,
+  IsPrintableLine,
+  IsPrintableJournal,
+  IsPrintableState,
+  IsPrintableFile,
+  IsPrintable,
+}
 use Rattle.fs_script.specs.Grammar.{IsJob}
-use Rattle.fs_script.specs.Report.{Report, journal_of, AreRising, file_state_of, IsLegal, answers_of}
-use Rattle.fs_script.specs.Printable.{IsPrintableAnswer, IsPrintableLine, IsPrintableJournal, IsPrintableState, IsPrintableFile, IsPrintable}
+use Rattle.fs_types.proofs.CallerLemmas.{answer_at-each}
 use Rattle.fs_script.proofs.AnsweredLines.{rising-passing}
 use Rattle.fs_script.proofs.Digests.{IsDigest-md5}
 use Rattle.fs_script.proofs.FileBytes.{IsWithinLimits, IsWithinLimits-state}

@@ -1,12 +1,43 @@
 -- The lines of a text, one after the other.
-use Rattle.std.proofs.Common.{◌≡◌, ℕ, ◌+◌, ◌<◌, ◌≤◌, ◌==◌, Bool, false, List, [], ◌∷◌, length, take, drop, Some, None, refl, sym, ap, ◌∙◌, arith, ◌++◌, Result, Ok, Err, append_assoc, length-append}
-use Rattle.std.specs.List.{slice_split, position, position_or_len, All}
-use Rattle.std.proofs.lemmas.List.Splits.{slice_split_first, slice_split_none, length-slice_split}
-use Rattle.std.proofs.lemmas.List.Sums.{fails_before_first}
-use Rattle.std.proofs.lemmas.Bool.Decides.{nat_tests}
-use Rattle.fs_script.specs.declared.line.Line.{Line}
-use Rattle.fs_script.specs.declared.fault.ScriptFault.{ScriptFault}
-use Rattle.fs_script.specs.declared.shape.Shape.{Shape}
+use Rattle.fs_types.proofs.Common.{
+  ◌≡◌,
+  ℕ,
+  ◌+◌,
+  ◌<◌,
+  ◌≤◌,
+  ◌==◌,
+  Bool,
+  false,
+  List,
+  [],
+  ◌∷◌,
+  length,
+  take,
+  drop,
+  Some,
+  None,
+  refl,
+  sym,
+  ap,
+  ◌∙◌,
+  arith,
+  ◌++◌,
+  Result,
+  Ok,
+  Err,
+  append_assoc,
+  length-append,
+  slice_split,
+  position,
+  position_or_len,
+  All,
+  slice_split_first,
+  slice_split_none,
+  length-slice_split,
+  fails_before_first,
+  nat_tests,
+}
+use Rattle.fs_script.specs.Vocabulary.{Line, ScriptFault, Shape}
 use Rattle.fs_script.specs.Reading.{with_line, line_of, lines_from}
 use Rattle.fs_script.specs.Grammar.{without_empty_end, lines_of}
 

@@ -1,13 +1,42 @@
 -- Numerals: the number that is read, and the one text of each number.
-use Rattle.std.proofs.Common.{◌≡◌, ℕ, ◌+◌, ◌-◌, ◌*◌, ◌^◌, ◌<◌, ◌≤◌, true, ◌&&◌, List, [], ◌∷◌, length, get_or, take, Some, None, refl, ap, ◌∙◌, arith, lit≤}
-use Rattle.std.specs.List.{list_all}
-use Rattle.std.specs.Char.{is_ascii_digit, digit_value}
-use Rattle.std.specs.Str.{all_ascii_digits}
-use Rattle.std.specs.Str.Parse.{digits_value}
-use Rattle.std.proofs.lemmas.Bool.{and_parts}
-use Rattle.std.proofs.lemmas.Bool.Decides.{nat_tests}
-use Rattle.std.proofs.lemmas.Int.Digits.{digits_value_more}
-use Rattle.std.proofs.lemmas.Str.Parse.{IsNumeralModel, numerals_by_value, tells_all_ascii_digits, digit_at, digits_value-take-le}
+use Rattle.fs_types.proofs.Common.{
+  ◌≡◌,
+  ℕ,
+  ◌+◌,
+  ◌-◌,
+  ◌*◌,
+  ◌^◌,
+  ◌<◌,
+  ◌≤◌,
+  true,
+  ◌&&◌,
+  List,
+  [],
+  ◌∷◌,
+  length,
+  get_or,
+  take,
+  Some,
+  None,
+  refl,
+  ap,
+  ◌∙◌,
+  arith,
+  lit≤,
+  list_all,
+  is_ascii_digit,
+  digit_value,
+  all_ascii_digits,
+  digits_value,
+  and_parts,
+  nat_tests,
+  digits_value_more,
+  IsNumeralModel,
+  numerals_by_value,
+  tells_all_ascii_digits,
+  digit_at,
+  digits_value-take-le,
+}
 use Rattle.fs_script.specs.Reading.{is_numeral, number_of}
 
 pub own : IsNumeralModel (λ ds. all_ascii_digits ds ≡ true) (digits_value 10)

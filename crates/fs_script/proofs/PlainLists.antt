@@ -1,14 +1,72 @@
 -- Plain lists, ranges and options, in the forms that the definitions of this crate have: `AllByRecursion` and
 -- `slice_get`, where std's lemmas have `All` and `get_or`.
-use Rattle.std.proofs.Common.{◌≡◌, ℕ, zero, suc, ◌+◌, ◌≤◌, ◌<◌, Bool, true, false, List, [], ◌∷◌, ◌++◌, map, length, take, get_or, slice_get, count_by, cond, Option, Some, None, IsSome, is_some, ◌⊎◌, inl, inr, true≢false, refl, sym, ap, ◌∙◌, subst, subst₂, take-take, All, arith}
-use Rattle.std.specs.List.{AllByRecursion, filter, range_with_len}
-use Rattle.std.proofs.lemmas.Bool.{cond_both, cond-true, cases_eq, cases_order}
-use Rattle.std.proofs.lemmas.Option.{none-some, same_Some, slice_get_within, slice_get-get_or, get_or_from_slice_get}
-use Rattle.std.proofs.lemmas.List.{length-map, length_push, get_or-map, get_or_append_left}
-use Rattle.std.proofs.lemmas.List.Elements.{All-from_recursion, recursion_from_All, All-take, All-push, All-filter, filter_passes}
-use Rattle.std.proofs.lemmas.List.FromFn.{length-range_with_len, get_or-range_with_len}
-use Rattle.std.proofs.lemmas.List.Kept.{AllPairs-filter}
-use Rattle.std.proofs.lemmas.List.Sums.{sum_by-take-le}
+use Rattle.fs_types.proofs.Common.{
+  ◌≡◌,
+  ℕ,
+  zero,
+  suc,
+  ◌+◌,
+  ◌≤◌,
+  ◌<◌,
+  Bool,
+  true,
+  false,
+  List,
+  [],
+  ◌∷◌,
+  ◌++◌,
+  map,
+  length,
+  take,
+  get_or,
+  slice_get,
+  count_by,
+  cond,
+  Option,
+  Some,
+  None,
+  IsSome,
+  is_some,
+  ◌⊎◌,
+  inl,
+  inr,
+  true≢false,
+  refl,
+  sym,
+  ap,
+  ◌∙◌,
+  subst,
+  subst₂,
+  take-take,
+  All,
+  arith,
+  AllByRecursion,
+  filter,
+  range_with_len,
+  cond_both,
+  cond-true,
+  cases_eq,
+  cases_order,
+  none-some,
+  same_Some,
+  slice_get_within,
+  slice_get-get_or,
+  get_or_from_slice_get,
+  length-map,
+  length_push,
+  get_or-map,
+  get_or_append_left,
+  All-from_recursion,
+  recursion_from_All,
+  All-take,
+  All-push,
+  All-filter,
+  filter_passes,
+  length-range_with_len,
+  get_or-range_with_len,
+  AllPairs-filter,
+  sum_by-take-le,
+}
 
 -- ---- options
 

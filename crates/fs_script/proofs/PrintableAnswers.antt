@@ -1,36 +1,66 @@
 -- An answer that fits a legal journal is printable, where the bytes that it shows are compared.
-use Rattle.std.proofs.Common.{◌≡◌, ℕ, ◌^◌, ◌<◌, ◌≤◌, nat_le, List, length, drop, Option, Some, None, sym, subst, arith}
-use Rattle.std.specs.Int.{div_ceil}
-use Rattle.std.proofs.Math.Nat.{div-le_self}
-use Rattle.std.proofs.lemmas.Bool.{cond_both, leb-true}
-use Rattle.std.proofs.lemmas.List.Elements.{All-take, All-drop, recursion_from_All}
+use Rattle.fs_types.proofs.Common.{
+  ◌≡◌,
+  ℕ,
+  ◌^◌,
+  ◌<◌,
+  ◌≤◌,
+  nat_le,
+  List,
+  length,
+  drop,
+  Option,
+  Some,
+  None,
+  sym,
+  subst,
+  arith,
+  div_ceil,
+  div-le_self,
+  cond_both,
+  leb-true,
+  All-take,
+  All-drop,
+  recursion_from_All,
+}
 use Rattle.md5.specs.Md5.{md5}
-use Rattle.fs_types.specs.declared.answer.Answer.{Answer}
-use Rattle.fs_types.specs.declared.answer.Answer.TheVariants as answers
-use Rattle.fs_types.specs.declared.answer.Body.{Body}
-use Rattle.fs_types.specs.declared.answer.Body.TheVariants as bodies
-use Rattle.fs_types.specs.declared.limits.TheConstants.{HEX_LIMIT}
-use Rattle.fs_script.specs.declared.limits.TheConstants.{TRANSFER_LIMIT}
-use Rattle.fs_types.specs.Overwrite.{shown}
-use Rattle.fs_types.specs.PlainFile.{File}
-use Rattle.fs_types.proofs.CallerLemmas.{length-shown}
-use Rattle.fs_script.specs.declared.line.OpLine.{OpLine}
-use Rattle.fs_script.specs.declared.line.Op.{Op}
-use Rattle.fs_script.specs.declared.line.Op.TheVariants as ops
-use Rattle.fs_script.specs.declared.line.Data.TheVariants.{Text}
-use Rattle.fs_script.specs.Job.{Job, op_at}
-use Rattle.fs_script.specs.Payload.{brought}
-use Rattle.fs_script.specs.Operations.{Range, asked}
-use Rattle.fs_script.specs.Pending.{Answering}
-use Rattle.fs_script.specs.Effect.{state}
-use Rattle.fs_script.specs.Fits.{AreTold, LineView, line_view, Accepts, ShowsAsked, Fits, body_of}
-use Rattle.fs_script.specs.Journal.{IsLegalJournal}
+use Rattle.fs_script.specs.Vocabulary.{
+  Answer,
+  Body,
+  HEX_LIMIT,
+  TRANSFER_LIMIT,
+  shown,
+  File,
+  OpLine,
+  Op,
+  Text,
+  Job,
+  op_at,
+  brought,
+  Range,
+  asked,
+  Answering,
+  state,
+  AreTold,
+  LineView,
+  line_view,
+  Accepts,
+  ShowsAsked,
+  Fits,
+  body_of,
+  IsLegalJournal,
+  IsPrintableBody,
+  IsPrintableAnswer,
+}
 use Rattle.fs_script.specs.Grammar.{IsJob, IsOp}
-use Rattle.fs_script.specs.Printable.{IsPrintableBody, IsPrintableAnswer}
+use Rattle.fs_types.proofs.CallerLemmas.{length-shown}
 use Rattle.fs_script.proofs.Digests.{IsDigest-md5}
 use Rattle.fs_script.proofs.FileBytes.{AllBytes, IsWithinLimits, IsWithinLimits-state}
 use Rattle.fs_script.proofs.Jobs.{IsOpLine-from_job}
 use Rattle.fs_script.proofs.JournalLines.{length-journal}
+use Rattle.fs_types.specs.declared.answer.Answer.TheVariants as answers
+use Rattle.fs_types.specs.declared.answer.Body.TheVariants as bodies
+use Rattle.fs_script.specs.declared.line.Op.TheVariants as ops
 
 -- ---- slots
 

@@ -1,20 +1,76 @@
 -- A job stays legal so far as its next answer comes: one that commits nothing, or one whose line comes to the end of its path's journal.
-use Rattle.std.proofs.Common.{◌≡◌, ◌≢◌, ℕ, suc, ◌≤◌, true, List, [], ◌∷◌, ◌++◌, length, Some, None, is_some, bytes_eq, true≢false, refl, sym, ap, ◌∙◌, subst, inl, inr, arith}
-use Rattle.std.proofs.lemmas.Bool.{cases_eq, cases_Bool, cond-true, cond-false, false_from_ne_true}
-use Rattle.std.proofs.lemmas.Option.{none-some, same_Some}
-use Rattle.std.proofs.lemmas.Slice.Eq.{bytes_eq-Decides}
-use Rattle.fs_types.specs.declared.answer.Answer.{Answer}
-use Rattle.fs_script.specs.declared.line.OpLine.{OpLine}
-use Rattle.fs_script.specs.Job.{Job, op_at, rank_in, phase}
-use Rattle.fs_script.specs.Pending.{Answering, pending, pending_at}
-use Rattle.fs_script.specs.Front.{front}
-use Rattle.fs_script.specs.Effect.{is_enabled, state}
-use Rattle.fs_script.specs.Fits.{Fits}
-use Rattle.fs_script.specs.Journal.{commit_by, commit_in, committed, enabled_in, IsLegalJournal}
-use Rattle.fs_script.specs.Growth.{AddsAnswer, IsOfNoEarlierPhase, AllFit}
-use Rattle.fs_script.specs.SoFar.{Journals, IsLegalSoFar, IsNextAnswer, Pushes}
+use Rattle.fs_types.proofs.Common.{
+  ◌≡◌,
+  ◌≢◌,
+  ℕ,
+  suc,
+  ◌≤◌,
+  true,
+  List,
+  [],
+  ◌∷◌,
+  ◌++◌,
+  length,
+  Some,
+  None,
+  is_some,
+  bytes_eq,
+  true≢false,
+  refl,
+  sym,
+  ap,
+  ◌∙◌,
+  subst,
+  inl,
+  inr,
+  arith,
+  cases_eq,
+  cases_Bool,
+  cond-true,
+  cond-false,
+  false_from_ne_true,
+  none-some,
+  same_Some,
+  bytes_eq-Decides,
+}
+use Rattle.fs_script.specs.Vocabulary.{
+  Answer,
+  OpLine,
+  Job,
+  op_at,
+  rank_in,
+  phase,
+  Answering,
+  pending,
+  pending_at,
+  front,
+  is_enabled,
+  state,
+  Fits,
+  commit_by,
+  commit_in,
+  committed,
+  enabled_in,
+  IsLegalJournal,
+  AddsAnswer,
+  IsOfNoEarlierPhase,
+  AllFit,
+  Journals,
+  IsLegalSoFar,
+  IsNextAnswer,
+  Pushes,
+}
 use Rattle.fs_script.proofs.FitsGrows.{Fits-agree, Fits-grows}
-use Rattle.fs_script.proofs.JournalGrows.{pending_at-next, AgreeBefore-next, AgreeBefore-answered, pending_at-in_journal, answered-in_journal, IsLegalJournal-none, IsLegalJournal-kept, IsLegalJournal-commit}
+use Rattle.fs_script.proofs.JournalGrows.{
+  pending_at-next,
+  AgreeBefore-next,
+  AgreeBefore-answered,
+  pending_at-in_journal,
+  answered-in_journal,
+  IsLegalJournal-none,
+  IsLegalJournal-kept,
+  IsLegalJournal-commit,
+}
 use Rattle.fs_script.proofs.InReach.{front-le-length_fit}
 use Rattle.fs_script.proofs.PlainLists.{AllByRecursion-from_get, AllByRecursion-push}
 

@@ -1,12 +1,39 @@
 -- The file after some lines of a journal: as the journal grows at its end, and as answers come that change nothing pending at its lines.
-use Rattle.std.proofs.Common.{◌≡◌, ℕ, suc, ◌≤◌, List, [], ◌∷◌, ◌++◌, length, take, None, refl, sym, ap, ◌∙◌, take_all, arith}
-use Rattle.std.proofs.lemmas.List.{take-append-le, length_push}
-use Rattle.fs_types.specs.PlainFile.{File, written}
-use Rattle.fs_script.specs.Job.{Job}
-use Rattle.fs_script.specs.Payload.{Cells, offset}
-use Rattle.fs_script.specs.Pending.{Answering, pending_at}
-use Rattle.fs_script.specs.Effect.{put_lines, effect, after_all, state_in}
-use Rattle.fs_script.specs.Growth.{SamePending}
+use Rattle.fs_types.proofs.Common.{
+  ◌≡◌,
+  ℕ,
+  suc,
+  ◌≤◌,
+  List,
+  [],
+  ◌∷◌,
+  ◌++◌,
+  length,
+  take,
+  None,
+  refl,
+  sym,
+  ap,
+  ◌∙◌,
+  take_all,
+  arith,
+  take-append-le,
+  length_push,
+}
+use Rattle.fs_script.specs.Vocabulary.{
+  File,
+  written,
+  Job,
+  Cells,
+  offset,
+  Answering,
+  pending_at,
+  put_lines,
+  effect,
+  after_all,
+  state_in,
+  SamePending,
+}
 use Rattle.fs_script.proofs.Agreement.{effect-agree}
 use Rattle.fs_script.proofs.PlainLists.{AllByRecursion-take}
 

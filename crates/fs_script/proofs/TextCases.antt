@@ -1,19 +1,31 @@
 -- The texts of some reports, written out.
-use Rattle.std.proofs.Common.{◌≡◌, ℕ, List, ◌<◌, [], ◌∷◌, ◌++◌, true, false, codes, refl, arith}
-use Rattle.std.specs.Prelude.{nat_lt}
-use Rattle.std.specs.List.{list_all}
-use Rattle.std.proofs.lemmas.Bool.Decides.{nat_tests}
-use Rattle.std.proofs.lemmas.List.Elements.{All-weaker, recursion_from_All}
-use Rattle.std.proofs.lemmas.List.Sums.{AllPass-from_list_all}
 use Rattle.std.specs.Fmt.{digits}
+use Rattle.fs_types.proofs.Common.{
+  ◌≡◌,
+  ℕ,
+  List,
+  ◌<◌,
+  [],
+  ◌∷◌,
+  ◌++◌,
+  true,
+  false,
+  codes,
+  refl,
+  arith,
+  nat_lt,
+  list_all,
+  nat_tests,
+  All-weaker,
+  recursion_from_All,
+  AllPass-from_list_all,
+}
+use Rattle.fs_script.specs.Vocabulary.{Report, AreBytes, IsPrintable, text, answer_line, journal_line, file_line, path_lines, line_feed}
 use Rattle.hex.proofs.OnLiterals.{hex_on_literals}
+use Rattle.fs_script.proofs.FiveLines.{path_a, five_journal}
 use Rattle.fs_types.specs.declared.answer.Answer.TheVariants as answers
 use Rattle.fs_types.specs.declared.answer.Body.TheVariants as bodies
 use Rattle.fs_types.specs.declared.file_state.FileState.TheVariants as states
-use Rattle.fs_script.specs.Report.{Report}
-use Rattle.fs_script.specs.Printable.{AreBytes, IsPrintable}
-use Rattle.fs_script.specs.Text.{text, answer_line, journal_line, file_line, path_lines, line_feed}
-use Rattle.fs_script.proofs.FiveLines.{path_a, five_journal}
 
 -- the MD5 digest of `hello`
 abbrev hello_digest : List ℕ

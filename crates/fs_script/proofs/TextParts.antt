@@ -1,21 +1,46 @@
 -- Texts that are cut at a byte: each part is of bytes above it.
-use Rattle.std.proofs.Common.{◌≡◌, ℕ, ◌+◌, ◌^◌, ◌/◌, ◌%◌, ◌<◌, ◌≤◌, ◌==◌, true, false, ◌&&◌, List, [], ◌∷◌, ◌++◌, Some, slice_index, refl, ◌∙◌, arith, All}
-use Rattle.std.specs.Prelude.{nat_lt}
-use Rattle.std.specs.List.{list_all, slice_split}
-use Rattle.std.specs.Fmt.{decimal}
-use Rattle.std.proofs.lemmas.Bool.{and_from, eq-eqb}
-use Rattle.std.proofs.lemmas.Bool.Decides.{nat_tests}
-use Rattle.std.proofs.lemmas.Fmt.{decimal_by_steps}
-use Rattle.std.proofs.lemmas.List.Elements.{All-weaker}
-use Rattle.std.proofs.lemmas.List.Folds.{list_all-append}
-use Rattle.std.proofs.lemmas.List.Sums.{AllPass-from_list_all, list_all-from_AllPass}
-use Rattle.std.proofs.lemmas.List.Splits.{slice_split_at, slice_split_none}
+use Rattle.fs_types.proofs.Common.{
+  ◌≡◌,
+  ℕ,
+  ◌+◌,
+  ◌^◌,
+  ◌/◌,
+  ◌%◌,
+  ◌<◌,
+  ◌≤◌,
+  ◌==◌,
+  true,
+  false,
+  ◌&&◌,
+  List,
+  [],
+  ◌∷◌,
+  ◌++◌,
+  Some,
+  slice_index,
+  refl,
+  ◌∙◌,
+  arith,
+  All,
+  nat_lt,
+  list_all,
+  slice_split,
+  decimal,
+  and_from,
+  eq-eqb,
+  nat_tests,
+  decimal_by_steps,
+  All-weaker,
+  list_all-append,
+  AllPass-from_list_all,
+  list_all-from_AllPass,
+  slice_split_at,
+  slice_split_none,
+}
 use Rattle.hex.specs.Hex.{encode_lower, encode_with, hex_digit_value, lower_digits}
+use Rattle.fs_script.specs.Vocabulary.{IsVisible, IsPath, AreBytes}
 use Rattle.hex.proofs.HexLemmas.{IsDigits-lower_digits}
-use Rattle.fs_types.specs.PathLaws.{IsVisible}
-use Rattle.fs_types.specs.PathText.{IsPath}
 use Rattle.fs_types.proofs.CallerLemmas.{path_is_visible}
-use Rattle.fs_script.specs.Printable.{AreBytes}
 
 -- each byte is above c
 abbrev pub AreAbove : ℕ → List ℕ → Type 0

@@ -1,18 +1,35 @@
 -- Runs that go on by one event, and the journals that they leave.
-use Rattle.std.proofs.Common.{◌≡◌, ℕ, zero, suc, false, cond, List, [], ◌∷◌, ◌++◌, map, Option, Some, None, refl, sym, ap, subst, ◌∙◌}
-use Rattle.std.specs.List.{slice_get, Contains}
-use Rattle.std.specs.Str.{bytes_eq}
-use Rattle.std.proofs.lemmas.Option.{same_Some}
-use Rattle.fs_types.specs.PathText.{IsPath}
+use Rattle.fs_types.proofs.Common.{
+  ◌≡◌,
+  ℕ,
+  zero,
+  suc,
+  false,
+  cond,
+  List,
+  [],
+  ◌∷◌,
+  ◌++◌,
+  map,
+  Option,
+  Some,
+  None,
+  refl,
+  sym,
+  ap,
+  subst,
+  ◌∙◌,
+  slice_get,
+  Contains,
+  bytes_eq,
+  same_Some,
+}
+use Rattle.fs_script.specs.Vocabulary.{IsPath, AreRising, journal_of, Job, op_at, Names}
+use Rattle.fs_script.specs.declared.line.OpLine.{OpLine}
 use Rattle.fs_script.specs.Grammar.{IsJob}
-use Rattle.fs_script.specs.Report.{AreRising, journal_of}
+use Rattle.core_machine.specs.Vocabulary.{Moment, ready, next_line, Turn, step, step_at, step_line, HasClients, Reaches}
 use Rattle.fs_script.proofs.CallerLemmas.{IsOpLine-from_job}
 use Rattle.core_machine.proofs.CallerLemmas.{not_among, same_bytes, other_bytes}
-use Rattle.fs_script.specs.declared.line.OpLine.{OpLine}
-use Rattle.fs_script.specs.Job.{Job, op_at, Names}
-use Rattle.core_machine.specs.Moment.{Moment, ready, next_line}
-use Rattle.core_machine.specs.Step.{Turn, step, step_at, step_line}
-use Rattle.core_machine.specs.LegalSoFar.{HasClients, Reaches}
 
 -- a run and one more turn
 pub Reaches-push : (m n : Moment) (turns : List Turn) (t : Turn) → Reaches m turns n → Contains (ready n) t.client → Reaches m (turns ++ t ∷ []) (step n t)

@@ -1,21 +1,49 @@
 -- The bytes that extents make, one after the other, and at each place.
-use Rattle.std.proofs.Common.{◌≡◌, ℕ, ◌+◌, ◌-◌, ◌<◌, ◌≤◌, max, min, cond, ltb, leb, List, [], ◌∷◌, ◌++◌, length, take, drop, get_or, sym, ap, subst, ◌∙◌, arith, inl, inr}
-use Rattle.std.specs.Prelude.{◌&&◌}
-use Rattle.std.proofs.lemmas.Bool.{cases_lt}
-use Rattle.std.proofs.lemmas.Bool.Decides.{nat_tests}
-use Rattle.std.proofs.lemmas.List.Elements.{All-from_recursion}
+use Rattle.fs_types.proofs.Common.{
+  ◌≡◌,
+  ℕ,
+  ◌+◌,
+  ◌-◌,
+  ◌<◌,
+  ◌≤◌,
+  max,
+  min,
+  cond,
+  ltb,
+  leb,
+  List,
+  [],
+  ◌∷◌,
+  ◌++◌,
+  length,
+  take,
+  drop,
+  get_or,
+  sym,
+  ap,
+  subst,
+  ◌∙◌,
+  arith,
+  inl,
+  inr,
+  ◌&&◌,
+  cases_lt,
+  nat_tests,
+  All-from_recursion,
+  length-take-le,
+  length-drop,
+  get_or_append_left,
+  get_or-append_right,
+  get_or-take,
+  get_or-drop,
+  take_more,
+  map_push,
+}
+use Rattle.fs_script.specs.Vocabulary.{LONGEST_FILE, written, put, Job, payload, offset, bytes_of, put_lines}
+use Rattle.core_machine.specs.Vocabulary.{Extent, IsExtent, AreExtents, lines_of_extents, bytes_of_extents, byte_over}
 use borrow.Rule.Slice.PartMut.{put_mid, post_of}
-use Rattle.std.proofs.lemmas.List.{length-take-le, length-drop, get_or_append_left, get_or-append_right, get_or-take, get_or-drop, take_more, map_push}
-use Rattle.fs_types.specs.declared.limits.TheConstants.{LONGEST_FILE}
-use Rattle.fs_types.specs.PlainFile.{written}
-use Rattle.fs_types.specs.Overwrite.{put}
 use Rattle.fs_types.proofs.CallerLemmas.{length-put, get_or-put}
-use Rattle.fs_script.specs.Job.{Job}
-use Rattle.fs_script.specs.Payload.{payload, offset, bytes_of}
-use Rattle.fs_script.specs.Effect.{put_lines}
 use Rattle.fs_script.proofs.CallerLemmas.{put_lines-append}
-use Rattle.core_machine.specs.declared.extent.Extent.{Extent}
-use Rattle.core_machine.specs.Extents.{IsExtent, AreExtents, lines_of_extents, bytes_of_extents, byte_over}
 
 -- a place of a list of which a part was written
 get_or-put_mid : (a n i : ℕ) (xs ys : List ℕ) → a + n ≤ length xs → length ys ≡ n

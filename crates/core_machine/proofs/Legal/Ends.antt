@@ -1,19 +1,76 @@
 -- The end of a run: where no client is ready and memory didn't run out, each operation has an
 -- answer, and the report is legal.
-use Rattle.std.proofs.Common.{◌≡◌, ℕ, zero, suc, ◌+◌, ◌≤◌, ◌<◌, true, false, List, [], length, map, Some, None, IsSome, is_some, slice_get, slice_index, Contains, ltb-false, le-ltb, le-leb, true≢false, refl, sym, ap, ◌∙◌, subst, inl, inr, arith}
-use Rattle.std.proofs.lemmas.Bool.{or_left, or_right, cases_Bool, cases_lt, false_from_ne_true}
-use Rattle.std.proofs.lemmas.List.Elements.{All-map, recursion_from_All}
-use Rattle.std.proofs.lemmas.Option.{slice_get-get_or, slice_get_within}
-use Rattle.std.proofs.lemmas.Simd.{map-map}
-use Rattle.fs_types.specs.declared.file_state.FileState.{FileState}
-use Rattle.fs_script.specs.declared.line.OpLine.{OpLine}
-use Rattle.fs_script.specs.Job.{Job, op_at, op_lines, is_of_rank, program}
-use Rattle.fs_script.specs.Pending.{Answering}
-use Rattle.fs_script.specs.Report.{file_state_of, IsLegal}
-use Rattle.fs_script.proofs.CallerLemmas.{rises_past, none_from-is_some, lines-passing, IsLegal-finished, phase-rises, some_of, op_at-within, passing-rise, program-place, program-op}
-use Rattle.core_machine.specs.Moment.{Moment, printed, client_of, file_now, has_begun, may_come, next_line, ready}
-use Rattle.core_machine.specs.MomentReport.{report_of}
-use Rattle.core_machine.specs.LegalSoFar.{IsAnsweredUpTo, IsLegalMoment}
+use Rattle.fs_types.proofs.Common.{
+  ◌≡◌,
+  ℕ,
+  zero,
+  suc,
+  ◌+◌,
+  ◌≤◌,
+  ◌<◌,
+  true,
+  false,
+  List,
+  [],
+  length,
+  map,
+  Some,
+  None,
+  IsSome,
+  is_some,
+  slice_get,
+  slice_index,
+  Contains,
+  ltb-false,
+  le-ltb,
+  le-leb,
+  true≢false,
+  refl,
+  sym,
+  ap,
+  ◌∙◌,
+  subst,
+  inl,
+  inr,
+  arith,
+  or_left,
+  or_right,
+  cases_Bool,
+  cases_lt,
+  false_from_ne_true,
+  All-map,
+  recursion_from_All,
+  slice_get-get_or,
+  slice_get_within,
+  map-map,
+}
+use Rattle.fs_script.specs.Vocabulary.{FileState, Job, op_at, op_lines, is_of_rank, program, Answering, file_state_of, IsLegal}
+use Rattle.core_machine.specs.Vocabulary.{
+  OpLine,
+  Moment,
+  printed,
+  client_of,
+  file_now,
+  has_begun,
+  may_come,
+  next_line,
+  ready,
+  report_of,
+  IsAnsweredUpTo,
+  IsLegalMoment,
+}
+use Rattle.fs_script.proofs.CallerLemmas.{
+  rises_past,
+  none_from-is_some,
+  lines-passing,
+  IsLegal-finished,
+  phase-rises,
+  some_of,
+  op_at-within,
+  passing-rise,
+  program-place,
+  program-op,
+}
 use Rattle.core_machine.proofs.Legal.Phases.{Contains-passing, lets_begin, has_begun-from}
 
 -- the place of a client whose lines before the one at i have answers, but not that one

@@ -1,22 +1,60 @@
 -- The line that comes next, and when its event keeps its path legal: what the events of all
 -- operations share.
-use Rattle.std.proofs.Common.{◌≡◌, ℕ, suc, ◌+◌, ◌≤◌, Bool, true, false, not, cond, List, [], ◌∷◌, ◌++◌, length, Option, Some, None, IfSome, IsTrue, true≢false, add-one, refl, sym, ap, arith}
-use Rattle.std.proofs.lemmas.Bool.{cond_both, OnTrue_from}
-use Rattle.fs_types.specs.declared.answer.Answer.{Answer}
-use Rattle.fs_types.specs.declared.answer.Answer.TheVariants as answers
-use Rattle.fs_script.specs.declared.line.OpLine.{OpLine}
-use Rattle.fs_script.specs.declared.line.Op.{Op}
-use Rattle.fs_script.specs.Job.{Job, op_at}
-use Rattle.fs_script.specs.Operations.{needs_open, commits}
-use Rattle.fs_script.specs.AnswerKinds.{version_of, done_at}
-use Rattle.fs_script.specs.Pending.{Answering}
-use Rattle.fs_script.specs.Effect.{is_enabled}
-use Rattle.fs_script.specs.Fits.{IsInReach, AreTold, AgreesWithOpen, LineView, line_view, IsInTable}
-use Rattle.fs_script.specs.Journal.{commit_of, IsLegalJournal}
-use Rattle.fs_script.specs.Growth.{AllFit, ComesNext, IsOfNoEarlierPhase}
+use Rattle.fs_types.proofs.Common.{
+  ◌≡◌,
+  ℕ,
+  suc,
+  ◌+◌,
+  ◌≤◌,
+  Bool,
+  true,
+  false,
+  not,
+  cond,
+  List,
+  [],
+  ◌∷◌,
+  ◌++◌,
+  length,
+  Option,
+  Some,
+  None,
+  IfSome,
+  IsTrue,
+  true≢false,
+  add-one,
+  refl,
+  sym,
+  ap,
+  arith,
+  cond_both,
+  OnTrue_from,
+}
+use Rattle.fs_script.specs.Vocabulary.{
+  Answer,
+  Job,
+  op_at,
+  needs_open,
+  commits,
+  version_of,
+  done_at,
+  Answering,
+  is_enabled,
+  IsInReach,
+  AreTold,
+  AgreesWithOpen,
+  LineView,
+  line_view,
+  IsInTable,
+  commit_of,
+  IsLegalJournal,
+  AllFit,
+  ComesNext,
+  IsOfNoEarlierPhase,
+}
+use Rattle.core_machine.specs.Vocabulary.{OpLine, Op, Event, PathNow, if_open, path_now}
 use Rattle.fs_script.proofs.CallerLemmas.{slice_get-push_last, front-le-length_fit, IsInReach-now, IsInReach-made}
-use Rattle.core_machine.specs.Event.{Event, PathNow, if_open}
-use Rattle.core_machine.specs.Step.{path_now}
+use Rattle.fs_types.specs.declared.answer.Answer.TheVariants as answers
 
 -- a line that comes next for its client, where its path is legal so far by the answers that count
 pub record NextLine : Type 0 where

@@ -1,12 +1,11 @@
 -- The event of each operation is legal.
-use Rattle.fs_script.specs.declared.line.Op.{Op}
-use Rattle.fs_script.specs.declared.line.Op.TheVariants as ops
-use Rattle.core_machine.specs.Step.{event_of}
+use Rattle.core_machine.specs.Vocabulary.{Op, event_of}
 use Rattle.core_machine.proofs.Legal.Event.{NextLine, now, IsLegalEvent}
 use Rattle.core_machine.proofs.Legal.Events.Create.{create-legal}
 use Rattle.core_machine.proofs.Legal.Events.Write.{write-legal}
 use Rattle.core_machine.proofs.Legal.Events.Sync.{sync-legal}
 use Rattle.core_machine.proofs.Legal.Events.Read.{read-legal}
+use Rattle.fs_script.specs.declared.line.Op.TheVariants as ops
 pub mod Create
 pub mod Write
 pub mod Sync

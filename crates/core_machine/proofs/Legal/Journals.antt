@@ -1,12 +1,32 @@
 -- The journals with a line at the end of one path's: that path's journal has it, and every other
 -- stays.
-use Rattle.std.proofs.Common.{◌≡◌, ◌≢◌, ℕ, false, List, [], ◌∷◌, ◌++◌, map, bytes_eq, Contains, true≢false, refl, sym, ap, ◌∙◌, subst, inl, inr, arith}
-use Rattle.std.proofs.lemmas.Bool.{cases_Bool}
-use Rattle.std.proofs.lemmas.Map.Made.{Contains-tail}
-use Rattle.std.proofs.lemmas.Slice.Eq.{bytes_eq-Decides}
-use Rattle.fs_script.specs.Report.{journal_of}
-use Rattle.fs_script.specs.SoFar.{Pushes}
-use Rattle.core_machine.specs.Moment.{with_entry}
+use Rattle.fs_types.proofs.Common.{
+  ◌≡◌,
+  ◌≢◌,
+  ℕ,
+  false,
+  List,
+  [],
+  ◌∷◌,
+  ◌++◌,
+  map,
+  bytes_eq,
+  Contains,
+  true≢false,
+  refl,
+  sym,
+  ap,
+  ◌∙◌,
+  subst,
+  inl,
+  inr,
+  arith,
+  cases_Bool,
+  Contains-tail,
+  bytes_eq-Decides,
+}
+use Rattle.fs_script.specs.Vocabulary.{journal_of, Pushes}
+use Rattle.core_machine.specs.Vocabulary.{with_entry}
 use Rattle.core_machine.proofs.Paths.{same_bytes, other_bytes}
 
 -- the paths stay

@@ -1,15 +1,39 @@
 -- Phases: when that of a line has begun, and that no line with an answer is of a later one.
-use Rattle.std.proofs.Common.{◌≡◌, ℕ, ◌+◌, ◌≤◌, ◌<◌, Bool, true, length, Some, IsSome, is_some, leb, Contains, true≢false, sym, ◌∙◌, inl, inr}
-use Rattle.std.specs.Prelude.{◌||◌}
-use Rattle.std.specs.List.{filter, range_with_len}
-use Rattle.std.proofs.lemmas.Bool.{or_cases, lt-leb}
-use Rattle.std.proofs.lemmas.List.Elements.{All-contains, All-weaker, filter_passes}
-use Rattle.std.proofs.lemmas.List.Sums.{AllPass-from_list_all, list_all-from_AllPass}
-use Rattle.std.proofs.lemmas.Option.{slice_get_within, get_or_from_slice_get}
-use Rattle.fs_script.specs.declared.line.OpLine.{OpLine}
-use Rattle.fs_script.specs.Job.{op_at, op_lines, phase}
+use Rattle.fs_types.proofs.Common.{
+  ◌≡◌,
+  ℕ,
+  ◌+◌,
+  ◌≤◌,
+  ◌<◌,
+  Bool,
+  true,
+  length,
+  Some,
+  IsSome,
+  is_some,
+  leb,
+  Contains,
+  true≢false,
+  sym,
+  ◌∙◌,
+  inl,
+  inr,
+  ◌||◌,
+  filter,
+  range_with_len,
+  or_cases,
+  lt-leb,
+  All-contains,
+  All-weaker,
+  filter_passes,
+  AllPass-from_list_all,
+  list_all-from_AllPass,
+  slice_get_within,
+  get_or_from_slice_get,
+}
+use Rattle.fs_script.specs.Vocabulary.{op_at, op_lines, phase}
+use Rattle.core_machine.specs.Vocabulary.{OpLine, Moment, printed, has_begun}
 use Rattle.fs_script.proofs.CallerLemmas.{some_of, op_at-within, passing-place}
-use Rattle.core_machine.specs.Moment.{Moment, printed, has_begun}
 
 -- a number of a range that passes a test is among those that do
 pub Contains-passing : (P : ℕ → Bool) (a len n : ℕ) → P n ≡ true → a ≤ n → n < a + len

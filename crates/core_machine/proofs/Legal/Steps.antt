@@ -1,22 +1,74 @@
 -- One event keeps a moment legal: each invariant after it, by whether it brings an answer.
-use Rattle.std.proofs.Common.{◌≡◌, ◌≢◌, ℕ, ◌<◌, Bool, true, false, cond, List, length, map, Option, Some, None, IsSome, is_some, Contains, refl, sym, ap, ◌∙◌, subst, subst₂, inl, inr, arith}
-use Rattle.std.proofs.lemmas.Bool.{cases_eq}
-use Rattle.std.proofs.lemmas.List.{get_or-set_same, get_or-set_other, length-set}
-use Rattle.fs_types.specs.declared.answer.Answer.{Answer}
-use Rattle.fs_types.specs.AnswerList.{answer_at, put_answer}
+use Rattle.fs_types.proofs.Common.{
+  ◌≡◌,
+  ◌≢◌,
+  ℕ,
+  ◌<◌,
+  Bool,
+  true,
+  false,
+  cond,
+  List,
+  length,
+  map,
+  Option,
+  Some,
+  None,
+  IsSome,
+  is_some,
+  Contains,
+  refl,
+  sym,
+  ap,
+  ◌∙◌,
+  subst,
+  subst₂,
+  inl,
+  inr,
+  arith,
+  cases_eq,
+  get_or-set_same,
+  get_or-set_other,
+  length-set,
+}
+use Rattle.fs_script.specs.Vocabulary.{
+  Answer,
+  answer_at,
+  put_answer,
+  op_at,
+  phase,
+  Answering,
+  pending,
+  commit_of,
+  commit_by,
+  journal_of,
+  ArePaths,
+  AddsAnswer,
+  IsLegalSoFar,
+  IsNextAnswer,
+}
+use Rattle.core_machine.specs.Vocabulary.{
+  Doing,
+  Client,
+  Moment,
+  fresh_client,
+  printed,
+  answering,
+  client_of,
+  journal,
+  with_entry,
+  ready,
+  Event,
+  Turn,
+  event_at,
+  after_turn,
+  after_event,
+  step,
+  IsAnsweredUpTo,
+  IsLegalMoment,
+}
 use Rattle.fs_types.proofs.CallerLemmas.{IsRisingFrom-put_answer}
-use Rattle.fs_script.specs.Job.{op_at, phase}
-use Rattle.fs_script.specs.Pending.{Answering, pending}
-use Rattle.fs_script.specs.Journal.{commit_of, commit_by}
-use Rattle.fs_script.specs.Report.{journal_of, ArePaths}
-use Rattle.fs_script.specs.Growth.{AddsAnswer}
-use Rattle.fs_script.specs.SoFar.{IsLegalSoFar, IsNextAnswer}
 use Rattle.fs_script.proofs.CallerLemmas.{pending-agree, AddsAnswer-put, AgreeBefore-next, IsLegalSoFar-kept, IsLegalSoFar-commit}
-use Rattle.core_machine.specs.Doing.{Doing}
-use Rattle.core_machine.specs.Moment.{Client, Moment, fresh_client, printed, answering, client_of, journal, with_entry, ready}
-use Rattle.core_machine.specs.Event.{Event}
-use Rattle.core_machine.specs.Step.{Turn, event_at, after_turn, after_event, step}
-use Rattle.core_machine.specs.LegalSoFar.{IsAnsweredUpTo, IsLegalMoment}
 use Rattle.core_machine.proofs.Legal.Event.{now, IsLegalAnswer, IsLegalOutcome}
 use Rattle.core_machine.proofs.Legal.Events.{event_of-legal}
 use Rattle.core_machine.proofs.Legal.Journals.{paths-with_entry, Pushes-with_entry}

@@ -1,16 +1,56 @@
 -- A client's turn: the line that comes next, and what is known as it comes.
-use Rattle.std.proofs.Common.{◌≡◌, ℕ, ◌≤◌, ◌<◌, true, List, [], Option, Some, None, IsSome, is_some, Contains, true≢false, refl, sym, ap, ◌∙◌, subst, inl, inr, arith}
-use Rattle.std.specs.List.{filter, range_with_len}
-use Rattle.std.proofs.lemmas.Bool.{cond_both, cases_lt}
-use Rattle.std.proofs.lemmas.List.Elements.{All-contains, filter_passes}
-use Rattle.std.proofs.lemmas.Option.{same_Some}
-use Rattle.fs_script.specs.declared.line.OpLine.{OpLine}
-use Rattle.fs_script.specs.Job.{op_at, phase, rank_in}
-use Rattle.fs_script.specs.Growth.{ComesNext}
+use Rattle.fs_types.proofs.Common.{
+  ◌≡◌,
+  ℕ,
+  ◌≤◌,
+  ◌<◌,
+  true,
+  List,
+  [],
+  Option,
+  Some,
+  None,
+  IsSome,
+  is_some,
+  Contains,
+  true≢false,
+  refl,
+  sym,
+  ap,
+  ◌∙◌,
+  subst,
+  inl,
+  inr,
+  arith,
+  filter,
+  range_with_len,
+  cond_both,
+  cases_lt,
+  All-contains,
+  filter_passes,
+  same_Some,
+}
+use Rattle.fs_script.specs.Vocabulary.{op_at, phase, rank_in, ComesNext}
+use Rattle.core_machine.specs.Vocabulary.{
+  OpLine,
+  Moment,
+  printed,
+  answering,
+  client_of,
+  journal,
+  has_begun,
+  may_come,
+  next_line,
+  ready,
+  after_event,
+  event_at,
+  step_line,
+  step_at,
+  step,
+  IsAnsweredUpTo,
+  IsLegalMoment,
+}
 use Rattle.fs_script.proofs.CallerLemmas.{some_of, AllByRecursion-from_get, answered-in_journal, program-op}
-use Rattle.core_machine.specs.Moment.{Moment, printed, answering, client_of, journal, has_begun, may_come, next_line, ready}
-use Rattle.core_machine.specs.Step.{after_event, event_at, step_line, step_at, step}
-use Rattle.core_machine.specs.LegalSoFar.{IsAnsweredUpTo, IsLegalMoment}
 use Rattle.core_machine.proofs.Places.{StandsNext, unanswered, before}
 use Rattle.core_machine.proofs.Legal.Event.{NextLine}
 

@@ -1,13 +1,43 @@
 -- Which clients go, and when the run is in a phase.
-use Rattle.std.proofs.Common.{◌≡◌, ℕ, ◌+◌, ◌<◌, ◌≤◌, Bool, true, false, cond, List, [], ◌∷◌, ◌++◌, suc, zero-add, Option, Some, None, slice_get, Contains, true≢false, eqb-true, refl, sym, ap, ◌∙◌, arith}
-use Rattle.std.specs.List.{filter, range_with_len}
-use Rattle.std.proofs.lemmas.Bool.{eq-eqb}
-use Rattle.std.proofs.lemmas.List.{append-nil}
-use Rattle.std.proofs.lemmas.List.Elements.{filter-append}
-use Rattle.std.proofs.lemmas.Option.{none-some, slice_get-get_or}
-use Rattle.fs_script.specs.Job.{Job, phase}
+use Rattle.fs_types.proofs.Common.{
+  ◌≡◌,
+  ℕ,
+  ◌+◌,
+  ◌<◌,
+  ◌≤◌,
+  Bool,
+  true,
+  false,
+  cond,
+  List,
+  [],
+  ◌∷◌,
+  ◌++◌,
+  suc,
+  zero-add,
+  Option,
+  Some,
+  None,
+  slice_get,
+  Contains,
+  true≢false,
+  eqb-true,
+  refl,
+  sym,
+  ap,
+  ◌∙◌,
+  arith,
+  filter,
+  range_with_len,
+  eq-eqb,
+  append-nil,
+  filter-append,
+  none-some,
+  slice_get-get_or,
+}
+use Rattle.fs_script.specs.Vocabulary.{Job, phase}
+use Rattle.core_machine.specs.Vocabulary.{Places, next_in, is_of_phase, going, IsInPhase}
 use Rattle.fs_script.proofs.CallerLemmas.{range-push, passes, passing-place}
-use Rattle.core_machine.specs.Turns.{Places, next_in, is_of_phase, going, IsInPhase}
 
 -- whether client r goes
 abbrev pub goes_in : Places → ℕ → Bool

@@ -1,17 +1,76 @@
 -- What is kept of the turns, where a client is ready and after its next line was answered.
-use Rattle.std.proofs.Common.{◌≡◌, ℕ, ◌+◌, ◌<◌, ◌≤◌, true, false, List, [], not, length, map, filter, get_or, Vec, Global, vec_capacity, Some, IsSome, is_some, slice_get, slice_index, Contains, refl, sym, ap, ◌∙◌, subst, inl, inr, arith}
-use Rattle.std.specs.Prelude.{◌==◌, slice_set}
-use Rattle.std.proofs.Math.Seq.{map-set_same}
-use Rattle.std.proofs.lemmas.Bool.{cases_eq}
-use Rattle.std.proofs.lemmas.List.{length-map, map-set, get_or-set_same, get_or-set_other}
-use Rattle.std.proofs.lemmas.Option.{same_Some, slice_get_read, slice_get_within}
-use Rattle.fs_script.specs.Job.{phase, program}
-use Rattle.core_machine.specs.declared.program.Program.{Program}
-use Rattle.core_machine.specs.declared.turns.Turns.TheInside.{Inside}
-use Rattle.core_machine.specs.Turns.{Places, next_in, is_of_phase, going, IsInPhase}
-use Rattle.core_machine.specs.Program.{IsLeast, next_of, next_phases, ArePrograms, places_of, IsKept}
+use Rattle.fs_types.proofs.Common.{
+  ◌≡◌,
+  ℕ,
+  ◌+◌,
+  ◌<◌,
+  ◌≤◌,
+  true,
+  false,
+  List,
+  [],
+  not,
+  length,
+  map,
+  filter,
+  get_or,
+  Vec,
+  Global,
+  vec_capacity,
+  Some,
+  IsSome,
+  is_some,
+  slice_get,
+  slice_index,
+  Contains,
+  refl,
+  sym,
+  ap,
+  ◌∙◌,
+  subst,
+  inl,
+  inr,
+  arith,
+  ◌==◌,
+  slice_set,
+  map-set_same,
+  cases_eq,
+  length-map,
+  map-set,
+  get_or-set_same,
+  get_or-set_other,
+  same_Some,
+  slice_get_read,
+  slice_get_within,
+}
+use Rattle.fs_script.specs.Vocabulary.{phase, program}
+use Rattle.core_machine.specs.Vocabulary.{
+  Program,
+  Inside,
+  Places,
+  next_in,
+  is_of_phase,
+  going,
+  IsInPhase,
+  IsLeast,
+  next_of,
+  next_phases,
+  ArePrograms,
+  places_of,
+  IsKept,
+}
 use Rattle.core_machine.proofs.Programs.Going.{Goes, Goes-from_Contains, none-goes, IsInPhase-from_some}
-use Rattle.core_machine.proofs.Programs.NextLines.{next_in-within, length-programs, lines-at, place-at, next_of-read, Goes-least, going-least, IsInPhase-least, IsInPhase-none}
+use Rattle.core_machine.proofs.Programs.NextLines.{
+  next_in-within,
+  length-programs,
+  lines-at,
+  place-at,
+  next_of-read,
+  Goes-least,
+  going-least,
+  IsInPhase-least,
+  IsInPhase-none,
+}
 use Rattle.core_machine.proofs.Programs.Advanced.{advanced, next_in-own, none_earlier-advanced, going-stays, going-leaves}
 
 -- ---- a client that is ready

@@ -1,14 +1,46 @@
 -- The least of some numbers, and the phases of the lines that are done next.
-use Rattle.std.proofs.Common.{◌≡◌, ℕ, zero, suc, ◌<◌, ◌≤◌, List, [], ◌∷◌, length, min, fold, get_or, Option, Some, None, slice_get, Contains, refl, ap, ◌∙◌, inl, inr, arith}
-use Rattle.std.specs.Prelude.{IfNone, IfSome}
-use Rattle.std.specs.List.{AllByRecursion, reduce, filter_map, cons_option}
-use Rattle.std.specs.Option.{option_map}
-use Rattle.std.proofs.lemmas.Bool.{cases_lt}
-use Rattle.std.proofs.lemmas.Option.{none-some, same_Some, slice_get-get_or, slice_get_within, get_or_from_slice_get}
-use Rattle.std.proofs.lemmas.List.Elements.{All-from_recursion}
-use Rattle.fs_script.specs.Job.{Job, phase}
-use Rattle.core_machine.specs.declared.program.Program.{Program}
-use Rattle.core_machine.specs.Program.{IsLeast, next_of, next_phases}
+use Rattle.fs_types.proofs.Common.{
+  ◌≡◌,
+  ℕ,
+  zero,
+  suc,
+  ◌<◌,
+  ◌≤◌,
+  List,
+  [],
+  ◌∷◌,
+  length,
+  min,
+  fold,
+  get_or,
+  Option,
+  Some,
+  None,
+  slice_get,
+  Contains,
+  refl,
+  ap,
+  ◌∙◌,
+  inl,
+  inr,
+  arith,
+  IfNone,
+  IfSome,
+  AllByRecursion,
+  reduce,
+  filter_map,
+  cons_option,
+  option_map,
+  cases_lt,
+  none-some,
+  same_Some,
+  slice_get-get_or,
+  slice_get_within,
+  get_or_from_slice_get,
+  All-from_recursion,
+}
+use Rattle.fs_script.specs.Vocabulary.{Job, phase}
+use Rattle.core_machine.specs.Vocabulary.{Program, IsLeast, next_of, next_phases}
 
 -- ---- the least number
 

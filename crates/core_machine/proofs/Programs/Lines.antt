@@ -1,15 +1,53 @@
 -- The lines of the clients' programs, as the lines of the script come one by one.
-use Rattle.std.proofs.Common.{◌≡◌, ℕ, suc, ◌+◌, ◌-◌, ◌<◌, ◌≤◌, cond, List, [], ◌∷◌, ◌++◌, length, map, filter, get_or, set, replicate, Option, Some, None, refl, sym, ap, ◌∙◌, inl, inr, arith}
-use Rattle.std.specs.List.{range_with_len}
-use Rattle.std.proofs.lemmas.Bool.{cases_eq, eq-eqb, ne_eqb}
-use Rattle.std.proofs.lemmas.List.{length-replicate, get_or-replicate, get_or-map, map-set, length-set, get_or-set_same, get_or-set_other, append-nil}
-use Rattle.std.proofs.lemmas.List.Elements.{filter-append}
-use Rattle.std.proofs.lemmas.List.FromFn.{fill_by_all, get_or-map-range_with_len, length-map-range_with_len}
-use Rattle.fs_script.specs.declared.line.OpLine.{OpLine}
-use Rattle.fs_script.specs.Job.{Job, op_at, is_of_rank}
+use Rattle.fs_types.proofs.Common.{
+  ◌≡◌,
+  ℕ,
+  suc,
+  ◌+◌,
+  ◌-◌,
+  ◌<◌,
+  ◌≤◌,
+  cond,
+  List,
+  [],
+  ◌∷◌,
+  ◌++◌,
+  length,
+  map,
+  filter,
+  get_or,
+  set,
+  replicate,
+  Option,
+  Some,
+  None,
+  refl,
+  sym,
+  ap,
+  ◌∙◌,
+  inl,
+  inr,
+  arith,
+  range_with_len,
+  cases_eq,
+  eq-eqb,
+  ne_eqb,
+  length-replicate,
+  get_or-replicate,
+  get_or-map,
+  map-set,
+  length-set,
+  get_or-set_same,
+  get_or-set_other,
+  append-nil,
+  filter-append,
+  fill_by_all,
+  get_or-map-range_with_len,
+  length-map-range_with_len,
+}
+use Rattle.fs_script.specs.Vocabulary.{Job, op_at, is_of_rank}
+use Rattle.core_machine.specs.Vocabulary.{OpLine, Program, with_program_line}
 use Rattle.fs_script.proofs.CallerLemmas.{range-push}
-use Rattle.core_machine.specs.declared.program.Program.{Program}
-use Rattle.core_machine.specs.Program.{with_program_line}
 
 -- of a client's program the lines before line n
 abbrev pub lines_before : Job → ℕ → ℕ → List ℕ

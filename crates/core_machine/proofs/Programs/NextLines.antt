@@ -1,18 +1,59 @@
 -- What the programs that are kept say of the lines that come next, and of their phases.
-use Rattle.std.proofs.Common.{◌≡◌, ℕ, ◌<◌, ◌≤◌, List, [], length, map, get_or, Option, Some, None, slice_get, slice_index, Contains, refl, sym, ap, ◌∙◌, subst, zero-add, inl, inr, arith}
-use Rattle.std.specs.Prelude.{IfNone, IfSome, unwrap_or}
-use Rattle.std.specs.List.{range_with_len}
-use Rattle.std.specs.Option.{option_map}
-use Rattle.std.proofs.lemmas.List.{length-map}
-use Rattle.std.proofs.lemmas.List.Elements.{All-contains}
-use Rattle.std.proofs.lemmas.List.FromFn.{length-map-range_with_len}
-use Rattle.std.proofs.lemmas.Option.{same_Some, slice_get-map, slice_get_within, slice_get_cases, slice_get_read, get_or_from_slice_get}
-use Rattle.fs_script.specs.Job.{Job, phase, program}
+use Rattle.fs_types.proofs.Common.{
+  ◌≡◌,
+  ℕ,
+  ◌<◌,
+  ◌≤◌,
+  List,
+  [],
+  length,
+  map,
+  get_or,
+  Option,
+  Some,
+  None,
+  slice_get,
+  slice_index,
+  Contains,
+  refl,
+  sym,
+  ap,
+  ◌∙◌,
+  subst,
+  zero-add,
+  inl,
+  inr,
+  arith,
+  IfNone,
+  IfSome,
+  unwrap_or,
+  range_with_len,
+  option_map,
+  length-map,
+  All-contains,
+  length-map-range_with_len,
+  same_Some,
+  slice_get-map,
+  slice_get_within,
+  slice_get_cases,
+  slice_get_read,
+  get_or_from_slice_get,
+}
+use Rattle.fs_script.specs.Vocabulary.{Job, phase, program}
+use Rattle.core_machine.specs.Vocabulary.{
+  Program,
+  HasClients,
+  Places,
+  next_in,
+  going,
+  IsInPhase,
+  IsLeast,
+  next_of,
+  next_phases,
+  ArePrograms,
+  places_of,
+}
 use Rattle.fs_script.proofs.CallerLemmas.{slice_get-range, program-op}
-use Rattle.core_machine.specs.declared.program.Program.{Program}
-use Rattle.core_machine.specs.LegalSoFar.{HasClients}
-use Rattle.core_machine.specs.Turns.{Places, next_in, going, IsInPhase}
-use Rattle.core_machine.specs.Program.{IsLeast, next_of, next_phases, ArePrograms, places_of}
 use Rattle.core_machine.proofs.Programs.LeastPhase.{next_phases-at, next_phases-from}
 use Rattle.core_machine.proofs.Programs.Going.{Goes, none-goes, IsInPhase-from_some}
 

@@ -1,14 +1,45 @@
 -- What an answer to the line that comes next changes of what its client knows, as seen from the script's end.
-use Rattle.std.proofs.Common.{◌≡◌, ℕ, zero, suc, ◌≤◌, List, [], ◌∷◌, Option, Some, None, IsSome, is_some, true≢false, refl, sym, ap, ◌∙◌, inl, inr, arith}
-use Rattle.std.proofs.lemmas.Bool.{cases_lt}
-use Rattle.std.specs.List.{AllByRecursion}
-use Rattle.fs_types.specs.declared.answer.Answer.{Answer}
-use Rattle.fs_script.specs.declared.line.Op.{Op}
-use Rattle.fs_script.specs.Job.{Job, own_at, rank_at}
-use Rattle.fs_script.specs.Payload.{bytes_of}
-use Rattle.fs_script.specs.Pending.{Answering, one_more, over_answers}
-use Rattle.fs_script.specs.Effect.{state}
-use Rattle.fs_script.specs.Growth.{AddsAnswer, ComesNext, AgreeBefore, SamePending}
+use Rattle.fs_types.proofs.Common.{
+  ◌≡◌,
+  ℕ,
+  zero,
+  suc,
+  ◌≤◌,
+  List,
+  [],
+  ◌∷◌,
+  Option,
+  Some,
+  None,
+  IsSome,
+  is_some,
+  true≢false,
+  refl,
+  sym,
+  ap,
+  ◌∙◌,
+  inl,
+  inr,
+  arith,
+  cases_lt,
+  AllByRecursion,
+}
+use Rattle.fs_script.specs.Vocabulary.{
+  Answer,
+  Job,
+  own_at,
+  rank_at,
+  bytes_of,
+  Answering,
+  one_more,
+  over_answers,
+  state,
+  AddsAnswer,
+  ComesNext,
+  AgreeBefore,
+  SamePending,
+}
+use Rattle.core_machine.specs.Vocabulary.{Op}
 use Rattle.fs_script.proofs.CallerLemmas.{state_in-agree, pending_at-answered, some_of}
 
 -- ---- a client and a path that the line is not of

@@ -1,21 +1,35 @@
 -- A client's part of a path after an event: of the client whose line it is, and of every other.
-use Rattle.std.proofs.Common.{◌≡◌, ℕ, suc, ◌≤◌, ◌<◌, Bool, List, length, Some, None, ◌||◌, sym, ap, ◌∙◌, subst, arith}
-use Rattle.fs_types.specs.declared.answer.Answer.{Answer}
-use Rattle.fs_script.specs.declared.line.Op.{Op}
-use Rattle.fs_script.specs.declared.line.OpLine.{OpLine}
-use Rattle.fs_script.specs.Job.{Job, own_at}
-use Rattle.fs_script.specs.AnswerKinds.{version_of}
-use Rattle.fs_script.specs.Pending.{Answering, after_answer, one_more, over_answers}
-use Rattle.fs_script.specs.Effect.{state}
-use Rattle.fs_script.specs.Front.{opens, at_least}
-use Rattle.fs_script.specs.Growth.{AddsAnswer}
+use Rattle.fs_types.proofs.Common.{◌≡◌, ℕ, suc, ◌≤◌, ◌<◌, Bool, List, length, Some, None, ◌||◌, sym, ap, ◌∙◌, subst, arith}
+use Rattle.fs_script.specs.Vocabulary.{
+  Answer,
+  Job,
+  own_at,
+  version_of,
+  Answering,
+  after_answer,
+  one_more,
+  over_answers,
+  state,
+  opens,
+  at_least,
+  AddsAnswer,
+}
+use Rattle.core_machine.specs.Vocabulary.{
+  Op,
+  OpLine,
+  OwnedPath,
+  ClientPath,
+  known_of,
+  AreSound,
+  known_from,
+  Follows,
+  kept_event,
+  Knows,
+  StandsForOwner,
+  StandsForClient,
+  end_of,
+}
 use Rattle.fs_script.proofs.CallerLemmas.{over_answers-agree, AgreeBefore-next}
-use Rattle.core_machine.specs.declared.path_state.OwnedPath.{OwnedPath}
-use Rattle.core_machine.specs.declared.path_state.ClientPath.{ClientPath}
-use Rattle.core_machine.specs.Event.{known_of}
-use Rattle.core_machine.specs.Kept.{AreSound, known_from}
-use Rattle.core_machine.specs.Follows.{Follows, kept_event, Knows}
-use Rattle.core_machine.specs.Standing.{StandsForOwner, StandsForClient, end_of}
 use Rattle.core_machine.proofs.Refines.Answers.{AgreeBefore-elsewhere, IsOpenFrom, IsOpenFrom-answered, over_answers-until}
 use Rattle.core_machine.proofs.Refines.Owners.{IsNewAnswer, grown, length-grown, state-grown, told-within}
 

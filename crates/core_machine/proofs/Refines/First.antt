@@ -1,25 +1,57 @@
 -- What is kept before the first event, and that the moment it stands for is the first.
-use Rattle.std.proofs.Common.{◌≡◌, ℕ, zero, suc, ◌+◌, false, List, [], ◌∷◌, length, map, is_some, slice_index, All, true≢false, refl, sym, ap, subst, ◌∙◌, arith}
-use Rattle.std.specs.Prelude.{zip, replicate}
-use Rattle.std.specs.List.{AllByRecursion}
-use Rattle.std.proofs.lemmas.Bool.{le-ltb}
-use Rattle.std.proofs.lemmas.List.{length-map, length-replicate, get_or-replicate}
-use Rattle.std.proofs.lemmas.List.Elements.{recursion_from_All}
-use Rattle.std.proofs.lemmas.Slice.Zip.{firsts-zip}
-use Rattle.std.proofs.lemmas.Option.{slice_get_within, get_or_from_slice_get}
-use Rattle.fs_types.specs.AnswerList.{Given, answer_at}
-use Rattle.fs_script.specs.Job.{Job}
-use Rattle.fs_script.specs.Pending.{Answering}
-use Rattle.fs_script.specs.Report.{ArePaths}
-use Rattle.core_machine.specs.declared.path_state.OwnedPath.{OwnedPath}
-use Rattle.core_machine.specs.declared.path_state.ClientPath.{ClientPath}
-use Rattle.core_machine.specs.declared.path_state.PathState.{PathState}
-use Rattle.core_machine.specs.Kept.{IsFreshOwner, IsFreshClient, IsFreshPath}
-use Rattle.core_machine.specs.LegalSoFar.{HasClients}
-use Rattle.core_machine.specs.Moment.{IsFirst}
-use Rattle.core_machine.specs.Turns.{Places}
-use Rattle.core_machine.specs.MomentKept.{client_at, moment_of}
-use Rattle.core_machine.specs.Standing.{Holds, Stands, StandsForOwner, StandsForClient, end_of}
+use Rattle.fs_types.proofs.Common.{
+  ◌≡◌,
+  ℕ,
+  zero,
+  suc,
+  ◌+◌,
+  false,
+  List,
+  [],
+  ◌∷◌,
+  length,
+  map,
+  is_some,
+  slice_index,
+  All,
+  true≢false,
+  refl,
+  sym,
+  ap,
+  subst,
+  ◌∙◌,
+  arith,
+  zip,
+  replicate,
+  AllByRecursion,
+  le-ltb,
+  length-map,
+  length-replicate,
+  get_or-replicate,
+  recursion_from_All,
+  firsts-zip,
+  slice_get_within,
+  get_or_from_slice_get,
+}
+use Rattle.fs_script.specs.Vocabulary.{Given, answer_at, Job, Answering, ArePaths}
+use Rattle.core_machine.specs.Vocabulary.{
+  OwnedPath,
+  ClientPath,
+  PathState,
+  IsFreshOwner,
+  IsFreshClient,
+  IsFreshPath,
+  HasClients,
+  IsFirst,
+  Places,
+  client_at,
+  moment_of,
+  Holds,
+  Stands,
+  StandsForOwner,
+  StandsForClient,
+  end_of,
+}
 use Rattle.core_machine.proofs.Refines.Answers.{over_answers-until}
 use Rattle.core_machine.proofs.Refines.Journals.{journal_kept}
 

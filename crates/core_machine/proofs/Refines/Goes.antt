@@ -1,19 +1,55 @@
 -- A client that goes: it is one of the job's, and its next line is of the run's phase. Its step brings the run nearer to its end.
-use Rattle.std.proofs.Common.{◌≡◌, ℕ, zero, suc, ◌+◌, ◌-◌, ◌≤◌, ◌<◌, Bool, true, false, List, length, Some, Contains, slice_index, slice_get, sum_by, refl, sym, ap, ◌∙◌, subst, inl, inr, arith}
-use Rattle.std.specs.List.{range_with_len}
-use Rattle.std.proofs.lemmas.Bool.{cases_eq}
-use Rattle.std.proofs.lemmas.List.{get_or-set_same, get_or-set_other}
-use Rattle.std.proofs.lemmas.List.Sums.{sum_by-cons, sum_by-le-sum_by}
-use Rattle.std.proofs.lemmas.Option.{same_Some, slice_get_within}
-use Rattle.fs_types.specs.AnswerList.{Given}
-use Rattle.fs_script.specs.Job.{Job, phase, program}
-use Rattle.core_machine.specs.declared.path_state.PathState.{PathState}
-use Rattle.core_machine.specs.Turns.{Places, IsInPhase, going, next_in}
-use Rattle.core_machine.specs.Moment.{events_left, ready}
-use Rattle.core_machine.specs.MomentKept.{moment_of, after_line}
-use Rattle.core_machine.specs.Standing.{Holds}
+use Rattle.fs_types.proofs.Common.{
+  ◌≡◌,
+  ℕ,
+  zero,
+  suc,
+  ◌+◌,
+  ◌-◌,
+  ◌≤◌,
+  ◌<◌,
+  Bool,
+  true,
+  false,
+  List,
+  length,
+  Some,
+  Contains,
+  slice_index,
+  slice_get,
+  sum_by,
+  refl,
+  sym,
+  ap,
+  ◌∙◌,
+  subst,
+  inl,
+  inr,
+  arith,
+  range_with_len,
+  cases_eq,
+  get_or-set_same,
+  get_or-set_other,
+  sum_by-cons,
+  sum_by-le-sum_by,
+  same_Some,
+  slice_get_within,
+}
+use Rattle.fs_script.specs.Vocabulary.{Given, Job, phase, program}
+use Rattle.core_machine.specs.Vocabulary.{
+  PathState,
+  Places,
+  IsInPhase,
+  going,
+  next_in,
+  events_left,
+  ready,
+  moment_of,
+  after_line,
+  Holds,
+  HasClients,
+}
 use Rattle.core_machine.proofs.Refines.Moments.{client_of-places}
-use Rattle.core_machine.specs.LegalSoFar.{HasClients}
 use Rattle.core_machine.proofs.Programs.Going.{Goes-from_Contains}
 use Rattle.core_machine.proofs.Programs.NextLines.{next_in-within}
 use Rattle.core_machine.proofs.Refines.Ready.{ready-kept}

@@ -1,17 +1,46 @@
 -- The journals that are kept, as one path's state is changed.
-use Rattle.std.proofs.Common.{◌≡◌, ℕ, zero, suc, ◌<◌, Bool, true, false, cond, List, [], ◌∷◌, ◌++◌, length, set, get_or, map, Some, refl, sym, ap, subst, ◌∙◌, arith}
-use Rattle.std.specs.Prelude.{zip}
-use Rattle.std.specs.List.{slice_get, AllByRecursion}
-use Rattle.std.specs.Str.{bytes_eq}
-use Rattle.std.specs.Ordering.{nat_cmp, is_lt}
-use Rattle.std.specs.Cmp.Lexicographic.{slice_cmp}
-use Rattle.std.specs.Option.{option_map}
-use Rattle.std.proofs.lemmas.List.{map-set, set-get_or}
-use Rattle.std.proofs.lemmas.Option.{same_Some, slice_get-get_or, slice_get-map, get_or_from_slice_get}
-use Rattle.fs_script.specs.Report.{AreRising}
-use Rattle.core_machine.specs.declared.path_state.PathState.{PathState}
-use Rattle.core_machine.specs.Moment.{with_entry}
-use Rattle.core_machine.specs.MomentKept.{journals_of}
+use Rattle.fs_types.proofs.Common.{
+  ◌≡◌,
+  ℕ,
+  zero,
+  suc,
+  ◌<◌,
+  Bool,
+  true,
+  false,
+  cond,
+  List,
+  [],
+  ◌∷◌,
+  ◌++◌,
+  length,
+  set,
+  get_or,
+  map,
+  Some,
+  refl,
+  sym,
+  ap,
+  subst,
+  ◌∙◌,
+  arith,
+  zip,
+  slice_get,
+  AllByRecursion,
+  bytes_eq,
+  nat_cmp,
+  is_lt,
+  slice_cmp,
+  option_map,
+  map-set,
+  set-get_or,
+  same_Some,
+  slice_get-get_or,
+  slice_get-map,
+  get_or_from_slice_get,
+}
+use Rattle.fs_script.specs.Vocabulary.{AreRising}
+use Rattle.core_machine.specs.Vocabulary.{PathState, with_entry, journals_of}
 use Rattle.core_machine.proofs.Paths.{not_among, same_bytes, other_bytes}
 use Rattle.core_machine.proofs.Refines.Owners.{grown}
 

@@ -1,21 +1,34 @@
 -- The moment that is kept after a line was answered is the machine's next one.
-use Rattle.std.proofs.Common.{◌≡◌, ℕ, ◌+◌, false, List, set, get_or, map, Some, slice_index, refl, sym, ap, ◌∙◌}
-use Rattle.std.specs.List.{slice_get}
 use Rattle.std.proofs.Math.ListN.{get_or-map}
-use Rattle.fs_types.specs.declared.answer.Answer.{Answer}
-use Rattle.fs_types.specs.AnswerList.{Given, put_answer}
-use Rattle.fs_script.specs.Job.{Job, program}
-use Rattle.fs_script.specs.Report.{journal_of}
-use Rattle.core_machine.specs.declared.path_state.PathState.{PathState}
-use Rattle.core_machine.specs.Doing.{nothing}
-use Rattle.core_machine.specs.Moment.{Client, Moment, fresh_client, client_of, next_line}
-use Rattle.core_machine.specs.Event.{Event, PathNow}
-use Rattle.core_machine.specs.Step.{event_of, event_at, with_answer, after_turn, after_event, step, step_at, step_line, path_now}
-use Rattle.core_machine.specs.Follows.{kept_event}
-use Rattle.core_machine.specs.Turns.{Places}
-use Rattle.core_machine.specs.MomentKept.{client_at, journals_of, moment_of, after_line}
+use Rattle.fs_types.proofs.Common.{◌≡◌, ℕ, ◌+◌, false, List, set, get_or, map, Some, slice_index, refl, sym, ap, ◌∙◌, slice_get, map-set}
+use Rattle.fs_script.specs.Vocabulary.{Answer, Given, put_answer, Job, program, journal_of}
+use Rattle.core_machine.specs.Vocabulary.{
+  PathState,
+  nothing,
+  Client,
+  Moment,
+  fresh_client,
+  client_of,
+  next_line,
+  Event,
+  PathNow,
+  event_of,
+  event_at,
+  with_answer,
+  after_turn,
+  after_event,
+  step,
+  step_at,
+  step_line,
+  path_now,
+  kept_event,
+  Places,
+  client_at,
+  journals_of,
+  moment_of,
+  after_line,
+}
 use Rattle.core_machine.proofs.Paths.{journal_of-zip}
-use Rattle.std.proofs.lemmas.List.{map-set}
 use Rattle.core_machine.proofs.Refines.Journals.{slice_get-map_some, journal_kept, journals_of-set}
 use Rattle.core_machine.proofs.Refines.Now.{kept_now-is}
 use Rattle.core_machine.proofs.Refines.Steps.{Answered, given, is_own, stood, client_stood}

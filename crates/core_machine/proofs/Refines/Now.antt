@@ -1,20 +1,22 @@
 -- What the event of a line sees is what is kept for its path and its client.
-use Rattle.std.proofs.Common.{◌≡◌, ℕ, max, leb, refl, sym, ap, ◌∙◌, arith}
-use Rattle.std.specs.Prelude.{nat_lt, count_by}
-use Rattle.std.proofs.lemmas.Bool.{cond_both, leb-true}
-use Rattle.std.proofs.lemmas.Bool.Decides.{nat_tests}
-use Rattle.fs_script.specs.declared.line.OpLine.{OpLine}
-use Rattle.fs_script.specs.Job.{Job, phase}
-use Rattle.fs_script.specs.Pending.{Answering}
-use Rattle.fs_script.specs.Effect.{state}
-use Rattle.fs_script.specs.Front.{seen, front, of_earlier_phases}
-use Rattle.core_machine.specs.declared.noted.Noted.{Noted}
-use Rattle.core_machine.specs.declared.path_state.OwnedPath.{OwnedPath}
-use Rattle.core_machine.specs.declared.path_state.ClientPath.{ClientPath}
-use Rattle.core_machine.specs.Event.{Known, PathNow, known_of}
-use Rattle.core_machine.specs.Kept.{kept_now, known_from, later_of}
-use Rattle.core_machine.specs.Standing.{StandsForOwner, StandsForClient, end_of}
-use Rattle.core_machine.specs.Step.{path_now}
+use Rattle.fs_types.proofs.Common.{◌≡◌, ℕ, max, leb, refl, sym, ap, ◌∙◌, arith, nat_lt, count_by, cond_both, leb-true, nat_tests}
+use Rattle.fs_script.specs.Vocabulary.{Job, phase, Answering, state, seen, front, of_earlier_phases}
+use Rattle.core_machine.specs.Vocabulary.{
+  OpLine,
+  Noted,
+  OwnedPath,
+  ClientPath,
+  Known,
+  PathNow,
+  known_of,
+  kept_now,
+  known_from,
+  later_of,
+  StandsForOwner,
+  StandsForClient,
+  end_of,
+  path_now,
+}
 use Rattle.core_machine.proofs.Refines.Answers.{over_answers-until}
 use Rattle.core_machine.proofs.Refines.Clients.{IsOwn}
 

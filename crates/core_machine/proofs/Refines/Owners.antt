@@ -1,24 +1,70 @@
 -- The owner's part of a path after an event: of another path, and of the line's own.
-use Rattle.std.proofs.Common.{◌≡◌, ℕ, ◌+◌, ◌≤◌, Bool, true, false, cond, List, [], ◌∷◌, ◌++◌, length, Option, Some, IsSome, is_some, nat_lt, count_by, refl, sym, ap, ◌∙◌, subst, inl, inr, arith, le-ltb}
-use Rattle.std.specs.List.{AllByRecursion}
-use Rattle.std.proofs.lemmas.Bool.{cases_eq}
-use Rattle.std.proofs.lemmas.List.{length_push}
-use Rattle.std.proofs.lemmas.List.Sums.{sum_by_push, count_by-le-length}
-use Rattle.fs_types.specs.declared.answer.Answer.{Answer}
-use Rattle.fs_types.specs.PlainFile.{File}
-use Rattle.fs_script.specs.declared.line.OpLine.{OpLine}
-use Rattle.fs_script.specs.Job.{Job, op_at, phase}
-use Rattle.fs_script.specs.Payload.{bytes_of}
-use Rattle.fs_script.specs.Pending.{Answering, pending, pending_for, pending_at}
-use Rattle.fs_script.specs.Effect.{effect_of, effect_in, state}
-use Rattle.fs_script.specs.Growth.{AddsAnswer, ComesNext}
+use Rattle.fs_types.proofs.Common.{
+  ◌≡◌,
+  ℕ,
+  ◌+◌,
+  ◌≤◌,
+  Bool,
+  true,
+  false,
+  cond,
+  List,
+  [],
+  ◌∷◌,
+  ◌++◌,
+  length,
+  Option,
+  Some,
+  IsSome,
+  is_some,
+  nat_lt,
+  count_by,
+  refl,
+  sym,
+  ap,
+  ◌∙◌,
+  subst,
+  inl,
+  inr,
+  arith,
+  le-ltb,
+  AllByRecursion,
+  cases_eq,
+  length_push,
+  sum_by_push,
+  count_by-le-length,
+}
+use Rattle.fs_script.specs.Vocabulary.{
+  Answer,
+  File,
+  Job,
+  op_at,
+  phase,
+  bytes_of,
+  Answering,
+  pending,
+  pending_for,
+  pending_at,
+  effect_of,
+  effect_in,
+  state,
+  AddsAnswer,
+  ComesNext,
+}
+use Rattle.core_machine.specs.Vocabulary.{
+  OpLine,
+  OwnedPath,
+  ClientPath,
+  known_of,
+  AreSound,
+  file_of,
+  known_from,
+  pending_lines,
+  Follows,
+  kept_event,
+  StandsForOwner,
+}
 use Rattle.fs_script.proofs.CallerLemmas.{state_in-push, state_in-push_last, pending_at-next, AllByRecursion-push}
-use Rattle.core_machine.specs.declared.path_state.OwnedPath.{OwnedPath}
-use Rattle.core_machine.specs.declared.path_state.ClientPath.{ClientPath}
-use Rattle.core_machine.specs.Event.{known_of}
-use Rattle.core_machine.specs.Kept.{AreSound, file_of, known_from, pending_lines}
-use Rattle.core_machine.specs.Follows.{Follows, kept_event}
-use Rattle.core_machine.specs.Standing.{StandsForOwner}
 use Rattle.core_machine.proofs.Refines.Answers.{state-answered}
 
 -- line n, the operation o of the run's phase, comes next and is answered a

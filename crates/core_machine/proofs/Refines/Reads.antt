@@ -1,17 +1,25 @@
 -- What is read of a path in what the core keeps: its journal and its file at the moment.
-use Rattle.std.proofs.Common.{◌≡◌, ℕ, List, [], length, map, get_or, Some, None, false, sym, ap, ◌∙◌, arith}
-use Rattle.std.specs.List.{slice_get, Contains}
-use Rattle.std.proofs.lemmas.Option.{slice_get_within}
-use Rattle.fs_types.specs.AnswerList.{Given, answer_at}
-use Rattle.fs_script.specs.Job.{Job}
-use Rattle.fs_script.specs.Effect.{state}
-use Rattle.fs_script.specs.Report.{AreRising, journal_of}
-use Rattle.core_machine.specs.declared.path_state.PathState.{PathState}
-use Rattle.core_machine.specs.Kept.{file_of}
-use Rattle.core_machine.specs.Moment.{file_now}
-use Rattle.core_machine.specs.Turns.{Places}
-use Rattle.core_machine.specs.MomentKept.{journals_of, moment_of}
-use Rattle.core_machine.specs.Standing.{Holds, Stands}
+use Rattle.fs_types.proofs.Common.{
+  ◌≡◌,
+  ℕ,
+  List,
+  [],
+  length,
+  map,
+  get_or,
+  Some,
+  None,
+  false,
+  sym,
+  ap,
+  ◌∙◌,
+  arith,
+  slice_get,
+  Contains,
+  slice_get_within,
+}
+use Rattle.fs_script.specs.Vocabulary.{Given, answer_at, Job, state, AreRising, journal_of}
+use Rattle.core_machine.specs.Vocabulary.{PathState, file_of, file_now, Places, journals_of, moment_of, Holds, Stands}
 use Rattle.core_machine.proofs.Paths.{journal_of-zip, journal_of-absent}
 use Rattle.core_machine.proofs.Refines.Journals.{slice_get-map_some, slice_get-read, journal_kept}
 

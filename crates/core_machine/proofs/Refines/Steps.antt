@@ -1,27 +1,79 @@
 -- One event of the machine is one line answered by what the core keeps.
-use Rattle.std.proofs.Common.{◌≡◌, ◌≢◌, ℕ, ◌+◌, ◌<◌, ◌≤◌, Bool, false, cond, List, length, set, slice_index, Some, None, IsSome, is_some, refl, sym, ap, subst, ◌∙◌, arith, inl, inr, nat_eq, eq-eqb}
-use Rattle.std.specs.Prelude.{◌&&◌}
-use Rattle.std.specs.List.{slice_get}
-use Rattle.std.specs.Str.{bytes_eq}
-use Rattle.std.proofs.lemmas.Bool.{cases_eq, ne_eqb}
-use Rattle.std.proofs.lemmas.List.{length-set, get_or-set_same, get_or-set_other}
-use Rattle.std.proofs.lemmas.Option.{same_Some, slice_get_within}
-use Rattle.std.proofs.lemmas.Slice.Eq.{bytes_eq-Decides}
-use Rattle.fs_types.specs.declared.answer.Answer.{Answer}
-use Rattle.fs_types.specs.AnswerList.{Given, answer_at, put_answer}
-use Rattle.fs_script.specs.declared.line.OpLine.{OpLine}
-use Rattle.fs_script.specs.declared.line.Op.{Op}
-use Rattle.fs_script.specs.Job.{Job, op_at, own_at, own_op, rank_at, rank_in, phase, program}
-use Rattle.fs_script.specs.Pending.{Answering, pending}
+use Rattle.fs_types.proofs.Common.{
+  ◌≡◌,
+  ◌≢◌,
+  ℕ,
+  ◌+◌,
+  ◌<◌,
+  ◌≤◌,
+  Bool,
+  false,
+  cond,
+  List,
+  length,
+  set,
+  slice_index,
+  Some,
+  None,
+  IsSome,
+  is_some,
+  refl,
+  sym,
+  ap,
+  subst,
+  ◌∙◌,
+  arith,
+  inl,
+  inr,
+  nat_eq,
+  eq-eqb,
+  ◌&&◌,
+  slice_get,
+  bytes_eq,
+  cases_eq,
+  ne_eqb,
+  length-set,
+  get_or-set_same,
+  get_or-set_other,
+  same_Some,
+  slice_get_within,
+  bytes_eq-Decides,
+}
+use Rattle.fs_script.specs.Vocabulary.{
+  Answer,
+  Given,
+  answer_at,
+  put_answer,
+  Job,
+  op_at,
+  own_at,
+  own_op,
+  rank_at,
+  rank_in,
+  phase,
+  program,
+  Answering,
+  pending,
+}
+use Rattle.core_machine.specs.Vocabulary.{
+  OpLine,
+  Op,
+  PathState,
+  ClientPath,
+  AreSound,
+  pending_lines,
+  Follows,
+  kept_event,
+  Places,
+  IsAnsweredUpTo,
+  after_line,
+  Holds,
+  Stands,
+  StandsForOwner,
+  StandsForClient,
+  end_of,
+}
 use Rattle.fs_script.proofs.CallerLemmas.{AddsAnswer-put, own_op-rank, op_at-within, program-op}
-use Rattle.core_machine.specs.declared.path_state.PathState.{PathState}
-use Rattle.core_machine.specs.declared.path_state.ClientPath.{ClientPath}
-use Rattle.core_machine.specs.Kept.{AreSound, pending_lines}
-use Rattle.core_machine.specs.Follows.{Follows, kept_event}
-use Rattle.core_machine.specs.Turns.{Places}
-use Rattle.core_machine.specs.LegalSoFar.{IsAnsweredUpTo}
-use Rattle.core_machine.specs.MomentKept.{after_line}
-use Rattle.core_machine.specs.Standing.{Holds, Stands, StandsForOwner, StandsForClient, end_of}
 use Rattle.core_machine.proofs.Paths.{place_unique, other_bytes}
 use Rattle.core_machine.proofs.Places.{StandsNext, comes_next, upto-own, upto-other}
 use Rattle.core_machine.proofs.Refines.Answers.{IsOpenFrom-next, over_answers-until}

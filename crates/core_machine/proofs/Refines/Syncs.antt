@@ -1,19 +1,19 @@
 -- A sync that commits what is pending: the machine's event, and the file with the pending extents after its own.
-use Rattle.std.proofs.Common.{◌≡◌, ℕ, ◌+◌, true, false, List, [], ◌++◌, length, Some, Vec, refl, ap, ◌∙◌}
-use Rattle.std.proofs.lemmas.List.{map-append}
-use Rattle.fs_script.specs.declared.line.Op.TheVariants as ops
-use Rattle.fs_script.specs.Job.{Job}
-use Rattle.fs_script.specs.Payload.{bytes_of}
-use Rattle.fs_script.specs.Operations.{has_any}
-use Rattle.fs_script.specs.Effect.{effect_of, put_lines}
+use Rattle.fs_types.proofs.Common.{◌≡◌, ℕ, ◌+◌, true, false, List, [], ◌++◌, length, Some, Vec, refl, ap, ◌∙◌, map-append}
+use Rattle.fs_script.specs.Vocabulary.{Job, bytes_of, has_any, effect_of, put_lines}
+use Rattle.core_machine.specs.Vocabulary.{
+  Extent,
+  OwnedPath,
+  ClientPath,
+  lines_of_extents,
+  bytes_of_extents,
+  committed_as,
+  file_of,
+  pending_lines,
+  kept_event,
+}
 use Rattle.fs_script.proofs.CallerLemmas.{put_lines-append}
-use Rattle.core_machine.specs.declared.extent.Extent.{Extent}
-use Rattle.core_machine.specs.declared.path_state.OwnedPath.{OwnedPath}
-use Rattle.core_machine.specs.declared.path_state.ClientPath.{ClientPath}
-use Rattle.core_machine.specs.Extents.{lines_of_extents, bytes_of_extents}
-use Rattle.core_machine.specs.Event.{committed_as}
-use Rattle.core_machine.specs.Kept.{file_of, pending_lines}
-use Rattle.core_machine.specs.Follows.{kept_event}
+use Rattle.fs_script.specs.declared.line.Op.TheVariants as ops
 
 pub sync-event : (s : Job) (x : OwnedPath) (k : ClientPath) (xs : _) → k.is_open ≡ true → x.file ≡ Some xs → has_any (pending_lines k) ≡ true
     → kept_event s x k ops.Sync ≡ committed_as (length x.journal.items + 1)

@@ -1,25 +1,65 @@
 -- The end of a phase: all clients are told of every path, and all that is kept goes on holding in the next phase.
-use Rattle.std.proofs.Common.{◌≡◌, ℕ, zero, suc, ◌<◌, Bool, false, cond, List, [], ◌∷◌, ◌++◌, length, map, take, drop, set, get_or, Option, Some, None, IsSome, is_some, Vec, nat_lt, count_by, slice_index, refl, sym, ap, ◌∙◌, subst, arith}
-use Rattle.std.specs.Prelude.{zip}
-use Rattle.std.specs.List.{slice_get, AllByRecursion}
-use Rattle.std.proofs.lemmas.Bool.{lt-ltb}
-use Rattle.std.proofs.lemmas.List.{length-map}
-use Rattle.std.proofs.lemmas.List.Sums.{sum_by-cons}
-use Rattle.std.proofs.lemmas.Simd.{map-map}
-use Rattle.std.proofs.lemmas.Option.{same_Some}
-use Rattle.fs_types.specs.AnswerList.{Given, answer_at}
-use Rattle.fs_script.specs.Job.{Job, phase}
-use Rattle.fs_script.specs.Pending.{Answering}
-use Rattle.core_machine.specs.declared.extent.Extent.{Extent}
-use Rattle.core_machine.specs.declared.path_state.OwnedPath.{OwnedPath}
-use Rattle.core_machine.specs.declared.path_state.PathState.{PathState}
-use Rattle.core_machine.specs.Event.{known_of}
-use Rattle.core_machine.specs.Kept.{file_of, board_now, with_board}
-use Rattle.core_machine.specs.Turns.{Places}
-use Rattle.core_machine.specs.LegalSoFar.{IsAnsweredUpTo}
-use Rattle.core_machine.specs.MomentKept.{client_at, moment_of}
+use Rattle.fs_types.proofs.Common.{
+  ◌≡◌,
+  ℕ,
+  zero,
+  suc,
+  ◌<◌,
+  Bool,
+  false,
+  cond,
+  List,
+  [],
+  ◌∷◌,
+  ◌++◌,
+  length,
+  map,
+  take,
+  drop,
+  set,
+  get_or,
+  Option,
+  Some,
+  None,
+  IsSome,
+  is_some,
+  Vec,
+  nat_lt,
+  count_by,
+  slice_index,
+  refl,
+  sym,
+  ap,
+  ◌∙◌,
+  subst,
+  arith,
+  zip,
+  slice_get,
+  AllByRecursion,
+  lt-ltb,
+  length-map,
+  sum_by-cons,
+  map-map,
+  same_Some,
+}
+use Rattle.fs_script.specs.Vocabulary.{Given, answer_at, Job, phase, Answering}
+use Rattle.core_machine.specs.Vocabulary.{
+  Extent,
+  OwnedPath,
+  PathState,
+  known_of,
+  file_of,
+  board_now,
+  with_board,
+  Places,
+  IsAnsweredUpTo,
+  client_at,
+  moment_of,
+  Holds,
+  Stands,
+  StandsForOwner,
+}
 use Rattle.core_machine.proofs.Refines.Journals.{journal_kept}
-use Rattle.core_machine.specs.Standing.{Holds, Stands, StandsForOwner}
 
 -- lines of phases before a later one are all of the lines
 all-earlier : (s : Job) (now : ℕ) (J : List ℕ) → AllByRecursion (λ m. phase s m < now) J → length J ≡ count_by (λ m. nat_lt (phase s m) now) J

@@ -1,6 +1,5 @@
-use Rattle.std.proofs.Common.{◌≡◌, length, take, ap, ◌∙◌, arith}
-use Rattle.std.proofs.lemmas.List.{take_all}
-use Rattle.core_machine.specs.Extents.{bytes_of_extents}
+use Rattle.fs_types.proofs.Common.{◌≡◌, length, take, ap, ◌∙◌, arith, take_all}
+use Rattle.core_machine.specs.Vocabulary.{bytes_of_extents}
 use Rattle.core_machine.proofs.Extents.Bytes.{IsExtent-at, length-bytes_of_extents-more}
 use Rattle.core_machine.proofs.extent.covered.Goals as goal
 

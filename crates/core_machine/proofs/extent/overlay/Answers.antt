@@ -1,7 +1,6 @@
-use Rattle.std.proofs.Common.{◌≡◌, ◌-◌, length, take, drop, ap, ◌∙◌, sym, arith}
-use Rattle.std.proofs.lemmas.List.{length-take-le, length-drop}
+use Rattle.fs_types.proofs.Common.{◌≡◌, ◌-◌, length, take, drop, ap, ◌∙◌, sym, arith, length-take-le, length-drop}
+use Rattle.fs_script.specs.Vocabulary.{payload}
 use Rattle.core_machine.proofs.Extents.Bytes.{overlaid}
-use Rattle.fs_script.specs.Payload.{payload}
 use Rattle.core_machine.proofs.extent.overlay.Goals as goal
 
 pub returns-then-from-to : goal.returns-then-from-to

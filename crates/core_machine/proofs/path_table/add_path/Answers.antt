@@ -1,5 +1,5 @@
-use Rattle.std.proofs.Common.{sym, ap, ◌∙◌, rules}
-use Rattle.core_machine.specs.PathTable.{texts, with_path}
+use Rattle.fs_types.proofs.Common.{sym, ap, ◌∙◌, rules}
+use Rattle.core_machine.specs.Vocabulary.{texts, with_path}
 use Rattle.core_machine.proofs.PathTables.{texts-insert_key, with_path-there}
 use Rattle.core_machine.proofs.path_table.add_path.Goals as goal
 

@@ -1,6 +1,6 @@
-use Rattle.std.proofs.Common.{sym, ap, ◌∙◌, arith}
-use Rattle.fs_script.specs.Job.{op_at}
-use Rattle.core_machine.specs.PathTable.{with_op}
+use Rattle.fs_types.proofs.Common.{sym, ap, ◌∙◌, arith}
+use Rattle.fs_script.specs.Vocabulary.{op_at}
+use Rattle.core_machine.specs.Vocabulary.{with_op}
 use Rattle.core_machine.proofs.PathTables.{paths_of-more}
 use Rattle.core_machine.proofs.path_table.paths_by_line.Goals as goal
 

@@ -1,7 +1,5 @@
-use Rattle.std.proofs.Common.{◌<◌, sym, subst}
-use Rattle.std.specs.Vec.{with_items}
-use Rattle.core_machine.specs.Core.{moment}
-use Rattle.core_machine.specs.Moment.{Moment, events_left}
+use Rattle.fs_types.proofs.Common.{◌<◌, sym, subst, with_items}
+use Rattle.core_machine.specs.Vocabulary.{moment, Moment, events_left}
 use Rattle.core_machine.proofs.Refines.Goes.{ready-going, goes-some, nearer}
 use Rattle.core_machine.proofs.run.advance.Goals as goal
 

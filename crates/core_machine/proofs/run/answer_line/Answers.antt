@@ -1,19 +1,34 @@
-use Rattle.std.proofs.Common.{◌≡◌, ℕ, zero, suc, ◌<◌, false, List, [], ◌∷◌, length, Some, slice_get, set, is_some, refl, sym, ap, subst, arith}
-use Rattle.fs_types.specs.declared.answer.Answer.{Answer}
-use Rattle.fs_types.specs.AnswerList.{Given, put_answer}
+use Rattle.fs_types.proofs.Common.{
+  ◌≡◌,
+  ℕ,
+  zero,
+  suc,
+  ◌<◌,
+  false,
+  List,
+  [],
+  ◌∷◌,
+  length,
+  Some,
+  slice_get,
+  set,
+  is_some,
+  refl,
+  sym,
+  ap,
+  subst,
+  arith,
+}
+use Rattle.fs_script.specs.Vocabulary.{Answer, Given, put_answer}
+use Rattle.core_machine.specs.Vocabulary.{PathState, FollowsFor, IsSoundFor, moment_of, after_line, Holds, step}
 use Rattle.fs_script.proofs.CallerLemmas.{op_at-within, program-op}
-use Rattle.core_machine.specs.declared.path_state.PathState.{PathState}
-use Rattle.core_machine.specs.Follows.{FollowsFor, IsSoundFor}
-use Rattle.core_machine.specs.MomentKept.{moment_of, after_line}
-use Rattle.core_machine.specs.Standing.{Holds}
-use Rattle.core_machine.specs.Step.{step}
 use Rattle.core_machine.proofs.Refines.Goes.{Goes, goes-kept}
 use Rattle.core_machine.proofs.Refines.Journals.{slice_get-read}
 use Rattle.core_machine.proofs.Refines.Reads.{Stands-read}
 use Rattle.core_machine.proofs.Refines.Steps.{Answered, Holds-after}
 use Rattle.core_machine.proofs.Refines.Moments.{step-is}
-use Rattle.core_machine.proofs.run.answer_line.Goals as goal
 use Rattle.core_machine.proofs.run.answer_line.Goals.{After-next-n, After-set}
+use Rattle.core_machine.proofs.run.answer_line.Goals as goal
 
 goes : (c : After-next-n) → Goes c.args.s.now c.args.turns.now c.args.r c.next-n.result
 goes c = goes-kept c.args.s.now c.args.paths.now c.args.states.now c.args.answers.now c.args.turns.now c.args.r c.next-n.result c.requires.holds c.requires.going c.next-n.ensures.next

@@ -1,6 +1,4 @@
-use Rattle.std.proofs.Common.{◌≡◌, set, get_or, ap, subst}
-use Rattle.std.proofs.lemmas.Option.{slice_get_within}
-use Rattle.std.specs.Prelude.{Result, Ok, Err, IfOk, OnOk}
+use Rattle.fs_types.proofs.Common.{◌≡◌, set, get_or, ap, subst, slice_get_within, Result, Ok, Err, IfOk, OnOk}
 use Rattle.core_machine.proofs.Refines.Journals.{slice_get-read}
 use Rattle.core_machine.proofs.run.answer_on_path.Goals as goal
 

@@ -1,6 +1,5 @@
-use Rattle.std.proofs.Common.{◌≡◌, ap, subst}
-use Rattle.std.specs.Prelude.{IfOk}
-use Rattle.fs_script.specs.Report.{file_state_of}
+use Rattle.fs_types.proofs.Common.{◌≡◌, ap, subst, IfOk}
+use Rattle.fs_script.specs.Vocabulary.{file_state_of}
 use Rattle.core_machine.proofs.Refines.Reads.{Stands-read, file-read, file-absent}
 use Rattle.core_machine.proofs.run.file.Goals as goal
 

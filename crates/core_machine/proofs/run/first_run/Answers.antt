@@ -1,4 +1,4 @@
-use Rattle.std.proofs.Common.{◌≡◌, length, arith}
+use Rattle.fs_types.proofs.Common.{◌≡◌, length, arith}
 use Rattle.fs_script.proofs.CallerLemmas.{IsOpLine-from_job}
 use Rattle.core_machine.proofs.Refines.First.{Holds-first, IsFirst-first}
 use Rattle.core_machine.proofs.run.first_run.Goals as goal

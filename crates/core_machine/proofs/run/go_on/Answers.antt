@@ -1,13 +1,8 @@
-use Rattle.std.proofs.Common.{◌≡◌, length, map, sym, ap, subst, arith, ◌∙◌}
-use Rattle.std.specs.Vec.{with_items}
-use Rattle.std.proofs.lemmas.List.{with_items_is, length-map}
-use Rattle.core_machine.specs.Kept.{with_board}
-use Rattle.core_machine.specs.MomentKept.{moment_of, after_line}
-use Rattle.core_machine.specs.Standing.{Holds}
-use Rattle.core_machine.specs.Turns.{Places}
+use Rattle.fs_types.proofs.Common.{◌≡◌, length, map, sym, ap, subst, arith, ◌∙◌, with_items, with_items_is, length-map}
+use Rattle.core_machine.specs.Vocabulary.{with_board, moment_of, after_line, Holds, Places}
 use Rattle.core_machine.proofs.Refines.Told.{Holds-told, moment-told}
-use Rattle.core_machine.proofs.run.go_on.Goals as goal
 use Rattle.core_machine.proofs.run.go_on.Goals.{After-run-1}
+use Rattle.core_machine.proofs.run.go_on.Goals as goal
 
 -- every path's state after all were told
 states-told : (c : After-run-1) → c.tell_all.new.states ≡ map with_board c.args.run.now.states.items

@@ -1,4 +1,4 @@
-use Rattle.std.proofs.Common.{◌∙◌}
+use Rattle.fs_types.proofs.Common.{◌∙◌}
 use Rattle.core_machine.proofs.Refines.Reads.{journal-read, journal-absent}
 use Rattle.core_machine.proofs.run.journal.Goals as goal
 

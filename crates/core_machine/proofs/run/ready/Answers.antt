@@ -1,6 +1,5 @@
-use Rattle.std.proofs.Common.{sym, ap, ◌∙◌}
-use Rattle.core_machine.specs.Moment.{ready}
-use Rattle.core_machine.specs.MomentKept.{moment_of}
+use Rattle.fs_types.proofs.Common.{sym, ap, ◌∙◌}
+use Rattle.core_machine.specs.Vocabulary.{ready, moment_of}
 use Rattle.core_machine.proofs.Refines.Ready.{ready-kept}
 use Rattle.core_machine.proofs.run.ready.Goals as goal
 

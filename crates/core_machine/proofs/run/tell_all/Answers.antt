@@ -1,6 +1,5 @@
-use Rattle.std.proofs.Common.{◌++◌, map, take, drop, set, get_or, refl, sym, ap, ◌∙◌, add-one, append-nil}
-use Rattle.std.proofs.lemmas.List.{take_all, drop_all}
-use Rattle.core_machine.specs.Kept.{with_board}
+use Rattle.fs_types.proofs.Common.{◌++◌, map, take, drop, set, get_or, refl, sym, ap, ◌∙◌, add-one, append-nil, take_all, drop_all}
+use Rattle.core_machine.specs.Vocabulary.{with_board}
 use Rattle.core_machine.proofs.Refines.Told.{tell-next}
 use Rattle.core_machine.proofs.run.tell_all.Goals as goal
 

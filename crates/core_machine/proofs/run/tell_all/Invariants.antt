@@ -1,5 +1,5 @@
-use Rattle.std.proofs.Common.{◌≡◌, ◌++◌, map, take, drop}
-use Rattle.core_machine.specs.Kept.{with_board}
+use Rattle.fs_types.proofs.Common.{◌≡◌, ◌++◌, map, take, drop}
+use Rattle.core_machine.specs.Vocabulary.{with_board}
 use Rattle.core_machine.proofs.run.tell_all.Given as goal
 
 -- the paths so far were told of, and the others are as they were

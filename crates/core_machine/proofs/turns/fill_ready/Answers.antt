@@ -1,6 +1,5 @@
-use Rattle.std.proofs.Common.{◌<◌, ◌∙◌, ℕ, List, [], ◌∷◌, ◌++◌, Vec, Global, vec_len, vec_capacity, length, ap, sym, arith}
-use Rattle.core_machine.specs.Turns.{is_of_phase, next_in}
-use Rattle.core_machine.specs.Program.{places_of}
+use Rattle.fs_types.proofs.Common.{◌<◌, ◌∙◌, ℕ, List, [], ◌∷◌, ◌++◌, Vec, Global, vec_len, vec_capacity, length, ap, sym, arith}
+use Rattle.core_machine.specs.Vocabulary.{is_of_phase, next_in, places_of}
 use Rattle.core_machine.proofs.Programs.Going.{clients-push, clients-skip}
 use Rattle.core_machine.proofs.Programs.NextLines.{length-programs, next_of-read}
 use Rattle.core_machine.proofs.turns.fill_ready.Goals.{then-goes_in, else-goes_in}

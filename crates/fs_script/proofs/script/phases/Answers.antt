@@ -1,10 +1,29 @@
-use Rattle.std.proofs.Common.{◌≡◌, ℕ, ◌+◌, ◌<◌, ◌∙◌, Bool, true, false, List, length, cond, take, count_by, get_or, sym, ap, refl, arith}
-use Rattle.std.specs.Int.{from_bool}
-use Rattle.std.proofs.lemmas.List.{length-take}
-use Rattle.std.proofs.lemmas.List.Sums.{fold_more, count_by-le-length}
-use Rattle.std.proofs.lemmas.List.FromFn.{map-range_with_len_more}
-use Rattle.fs_script.specs.declared.line.Line.{Line}
-use Rattle.fs_script.specs.Job.{is_barrier}
+use Rattle.fs_types.proofs.Common.{
+  ◌≡◌,
+  ℕ,
+  ◌+◌,
+  ◌<◌,
+  ◌∙◌,
+  Bool,
+  true,
+  false,
+  List,
+  length,
+  cond,
+  take,
+  count_by,
+  get_or,
+  sym,
+  ap,
+  refl,
+  arith,
+  from_bool,
+  length-take,
+  fold_more,
+  count_by-le-length,
+  map-range_with_len_more,
+}
+use Rattle.fs_script.specs.Vocabulary.{Line, is_barrier}
 use Rattle.fs_script.proofs.script.phases.Goals.{After-from-phase}
 use Rattle.fs_script.proofs.script.phases.Goals as goal
 

@@ -1,5 +1,5 @@
 -- For bytes and for marks alike.
-use Rattle.std.proofs.Common.{ℕ}
+use Rattle.fs_types.proofs.Common.{ℕ}
 use Rattle.fs_types.specs.Marks.{no_mark}
 use Rattle.fs_types.proofs.Overwrites.{get_or-cut, length-cut}
 use Rattle.fs_types.proofs.laws.cutting_leaves_the_first_places.Goals as goal

@@ -1,5 +1,5 @@
 -- For bytes and for marks alike.
-use Rattle.std.proofs.Common.{ℕ}
+use Rattle.fs_types.proofs.Common.{ℕ}
 use Rattle.fs_types.specs.Marks.{no_mark}
 use Rattle.fs_types.proofs.Overwrites.{get_or-shown, length-shown}
 use Rattle.fs_types.proofs.laws.showing_gives_a_range.Goals as goal

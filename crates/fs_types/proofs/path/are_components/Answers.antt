@@ -1,6 +1,4 @@
-use Rattle.std.proofs.Common.{rules, tests, ◌==◌}
-use Rattle.std.proofs.lemmas.Iterator.Search.{all_from_yields_List}
-use Rattle.std.proofs.lemmas.Iterator.Splits.{YieldsList-from_slice_split}
+use Rattle.fs_types.proofs.Common.{rules, tests, ◌==◌, all_from_yields_List, YieldsList-from_slice_split}
 use Rattle.fs_types.specs.PathText.{is_component}
 use Rattle.fs_types.proofs.path.are_components.Goals as goal
 

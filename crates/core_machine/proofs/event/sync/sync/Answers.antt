@@ -1,11 +1,6 @@
-use Rattle.std.proofs.Common.{rules, true, cond, ◌≡◌, ◌∙◌, sym, ap, arith, ◌++◌}
-use Rattle.std.proofs.lemmas.Grind.{common_steps}
-use Rattle.fs_script.specs.declared.line.Op.TheVariants.{Sync}
-use Rattle.fs_script.specs.Payload.{bytes_of}
-use Rattle.fs_script.specs.Operations.{has_any}
-use Rattle.fs_script.specs.Effect.{effect_of}
-use Rattle.core_machine.specs.Event.{Event}
-use Rattle.core_machine.specs.Kept.{file_of, pending_lines}
+use Rattle.fs_types.proofs.Common.{rules, true, cond, ◌≡◌, ◌∙◌, sym, ap, arith, ◌++◌, common_steps}
+use Rattle.fs_script.specs.Vocabulary.{bytes_of, has_any, effect_of}
+use Rattle.core_machine.specs.Vocabulary.{Sync, Event, file_of, pending_lines}
 use Rattle.core_machine.proofs.Refines.Syncs.{sync-event, sync-file}
 use Rattle.core_machine.proofs.event.sync.sync.Goals as goal
 

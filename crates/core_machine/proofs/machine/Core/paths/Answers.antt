@@ -1,6 +1,4 @@
-use Rattle.std.proofs.Common.{map, sym, ap, ◌∙◌}
-use Rattle.std.proofs.lemmas.List.{length-map}
-use Rattle.std.proofs.lemmas.Slice.Zip.{firsts-zip}
+use Rattle.fs_types.proofs.Common.{map, sym, ap, ◌∙◌, length-map, firsts-zip}
 use Rattle.core_machine.proofs.Refines.Journals.{journal_kept}
 use Rattle.core_machine.proofs.machine.Core.paths.Goals as goal
 

@@ -1,7 +1,5 @@
-use Rattle.std.proofs.Common.{◌≡◌, position, slice_get, Contains, Some, sym, ap, subst, ◌∙◌}
-use Rattle.std.specs.Prelude.{IfSome, IfNone}
-use Rattle.std.specs.Str.{bytes_eq}
-use Rattle.core_machine.specs.PathTable.{texts}
+use Rattle.fs_types.proofs.Common.{◌≡◌, position, slice_get, Contains, Some, sym, ap, subst, ◌∙◌, IfSome, IfNone, bytes_eq}
+use Rattle.core_machine.specs.Vocabulary.{texts}
 use Rattle.core_machine.proofs.PathTables.{position-texts, slice_get-position, absent-from_position}
 use Rattle.core_machine.proofs.path_table.PathTable.index_of.Goals as goal
 

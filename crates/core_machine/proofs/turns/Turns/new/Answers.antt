@@ -1,6 +1,5 @@
-use Rattle.std.proofs.Common.{◌≡◌, ℕ, zero, suc, ◌∙◌, List, replicate, slice_index, refl, sym, ap, subst, arith}
-use Rattle.core_machine.specs.Turns.{IsInPhase}
-use Rattle.core_machine.specs.Program.{places_of}
+use Rattle.fs_types.proofs.Common.{◌≡◌, ℕ, zero, suc, ◌∙◌, List, replicate, slice_index, refl, sym, ap, subst, arith}
+use Rattle.core_machine.specs.Vocabulary.{IsInPhase, places_of}
 use Rattle.core_machine.proofs.Programs.NextLines.{length-programs, IsInPhase-first, phase-first}
 use Rattle.core_machine.proofs.turns.Turns.new.Goals as goal
 

@@ -1,7 +1,6 @@
-use Rattle.std.proofs.Common.{◌≡◌, ◌∙◌, Some, sym, subst, arith}
-use Rattle.std.specs.Prelude.{IsSome}
-use Rattle.fs_script.specs.Job.{phase}
-use Rattle.core_machine.specs.Turns.{next_in}
+use Rattle.fs_types.proofs.Common.{◌≡◌, ◌∙◌, Some, sym, subst, arith, IsSome}
+use Rattle.fs_script.specs.Vocabulary.{phase}
+use Rattle.core_machine.specs.Vocabulary.{next_in}
 use Rattle.core_machine.proofs.Programs.Kept.{IsReady, ready-within, some-next, line-ready}
 use Rattle.core_machine.proofs.turns.Turns.next.Goals.{After-r, After-unwrap}
 use Rattle.core_machine.proofs.turns.Turns.next.Goals as goal

@@ -1,7 +1,5 @@
-use Rattle.std.proofs.Common.{◌≡◌, ◌∙◌, List, sym, ap, arith}
-use Rattle.std.specs.List.{slice_get}
-use Rattle.fs_script.specs.declared.line.Line.{Line}
-use Rattle.fs_script.specs.Job.{Job, line_at}
+use Rattle.fs_types.proofs.Common.{◌≡◌, ◌∙◌, List, sym, ap, arith, slice_get}
+use Rattle.fs_script.specs.Vocabulary.{Line, Job, line_at}
 use Rattle.fs_script.proofs.LineAt.{line_at_place, copied_is}
 use Rattle.fs_script.proofs.script.Script.line.Goals as goal
 

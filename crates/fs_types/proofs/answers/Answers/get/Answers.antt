@@ -1,4 +1,4 @@
-use Rattle.std.proofs.Common.{None, ap, arith}
+use Rattle.fs_types.proofs.Common.{None, ap, arith}
 use Rattle.fs_types.proofs.Tables.{in_order, answer_at-table, answer_at-listed_below}
 use Rattle.fs_types.proofs.answers.Answers.get.Goals as goal
 

@@ -1,5 +1,4 @@
-use Rattle.std.proofs.Common.{◌≡◌, ◌++◌, take}
-use Rattle.std.specs.List.{flat_map}
+use Rattle.fs_types.proofs.Common.{◌≡◌, ◌++◌, take, flat_map}
 use Rattle.top_call.specs.JobReport.{path_text}
 use Rattle.top_call.proofs.text.paths.append_paths.Given as goal
 
