@@ -1,39 +1,8 @@
 -- Paths in byte order, their places, and what stands beside each.
-use Rattle.fs_types.proofs.Common.{
-  ◌≡◌,
-  ℕ,
-  zero,
-  suc,
-  true,
-  false,
-  List,
-  [],
-  ◌∷◌,
-  Some,
-  refl,
-  sym,
-  ap,
-  subst,
-  ◌∙◌,
-  arith,
-  true≢false,
-  zip,
-  AllByRecursion,
-  Contains,
-  slice_get,
-  bytes_eq,
-  nat_cmp,
-  is_lt,
-  slice_cmp,
-  tied_itself,
-  nat_list_cmp_total,
-  false_from_ne_true,
-  cond-true,
-  cond-false,
-  Contains-append_right,
-  same_Some,
-  bytes_eq-Decides,
-}
+use Rattle.fs_types.proofs.Common.{◌≡◌, ℕ, zero, suc, true, false, List, [], ◌∷◌, Some, refl, sym, ap, subst, ◌∙◌, arith, true≢false, zip}
+use Rattle.fs_types.proofs.Common.{AllByRecursion, Contains, slice_get, bytes_eq, nat_cmp, is_lt, slice_cmp, tied_itself}
+use Rattle.fs_types.proofs.Common.{nat_list_cmp_total, false_from_ne_true, cond-true, cond-false, Contains-append_right, same_Some}
+use Rattle.fs_types.proofs.Common.{bytes_eq-Decides}
 use Rattle.fs_script.specs.Vocabulary.{AreRising, journal_of}
 
 -- a path is not below itself

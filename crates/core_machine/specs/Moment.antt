@@ -1,30 +1,6 @@
 -- Moments of a simulated run: how far each client has come, the answers and the journals so far.
-use Rattle.std.specs.Prelude.{
-  ◌≡◌,
-  ℕ,
-  ◌-◌,
-  Bool,
-  false,
-  ◌||◌,
-  nat_le,
-  List,
-  [],
-  ◌∷◌,
-  ◌++◌,
-  length,
-  map,
-  filter,
-  sum_by,
-  is_some,
-  replicate,
-  Option,
-  Some,
-  None,
-  slice_index_or,
-  if◌then◌else◌,
-  slice_get,
-  bytes_eq,
-}
+use Rattle.std.specs.Prelude.{◌≡◌, ℕ, ◌-◌, Bool, false, ◌||◌, nat_le, List, [], ◌∷◌, ◌++◌, length, map, filter, sum_by, is_some, replicate}
+use Rattle.std.specs.Prelude.{Option, Some, None, slice_index_or, if◌then◌else◌, slice_get, bytes_eq}
 use Rattle.std.specs.List.{range_with_len, list_all, AllByRecursion}
 use Rattle.fs_script.specs.Vocabulary.{Answer, answer_at, File, Job, op_lines, phase, program, Answering, state, journal_of, ArePaths}
 use Rattle.core_machine.specs.Doing.{Doing, nothing}

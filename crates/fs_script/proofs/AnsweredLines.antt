@@ -1,35 +1,6 @@
 -- The lines of rising answers, one answer for each number of a range that passes a test.
-use Rattle.fs_types.proofs.Common.{
-  ◌≡◌,
-  ℕ,
-  zero,
-  suc,
-  ◌+◌,
-  ◌≤◌,
-  Bool,
-  true,
-  false,
-  List,
-  [],
-  ◌∷◌,
-  map,
-  None,
-  is_some,
-  true≢false,
-  refl,
-  sym,
-  ap,
-  ◌∙◌,
-  subst,
-  inl,
-  inr,
-  arith,
-  filter,
-  range_with_len,
-  cond_both,
-  cases_eq,
-  none-some,
-}
+use Rattle.fs_types.proofs.Common.{◌≡◌, ℕ, zero, suc, ◌+◌, ◌≤◌, Bool, true, false, List, [], ◌∷◌, map, None, is_some, true≢false, refl, sym}
+use Rattle.fs_types.proofs.Common.{ap, ◌∙◌, subst, inl, inr, arith, filter, range_with_len, cond_both, cases_eq, none-some}
 use Rattle.fs_script.specs.Vocabulary.{Answer, answer_at, IsRisingFrom}
 use Rattle.fs_types.proofs.CallerLemmas.{answer_at-same, answer_at-other, answer_at-rising_below, IsRisingFrom-lower}
 use Rattle.fs_script.proofs.PlainLists.{none_from-is_some}

@@ -1,44 +1,8 @@
 -- Two more scripts, worked out by hand: writes of nothing and refused creates, and pending writes over each other and past the end.
-use Rattle.fs_types.proofs.Common.{
-  ◌≡◌,
-  ℕ,
-  zero,
-  suc,
-  List,
-  [],
-  ◌∷◌,
-  ◌++◌,
-  Some,
-  None,
-  false,
-  slice_get,
-  Contains,
-  refl,
-  subst,
-  arith,
-  codes,
-  none-some,
-  same_Some,
-}
-use Rattle.fs_script.specs.Vocabulary.{
-  Answer,
-  answer_at,
-  OpLine,
-  Text,
-  Job,
-  phase,
-  program,
-  op_lines,
-  Answering,
-  pending_at,
-  state,
-  front,
-  is_open,
-  Fits,
-  committed,
-  IsLegalEntry,
-  IsLegalJournal,
-}
+use Rattle.fs_types.proofs.Common.{◌≡◌, ℕ, zero, suc, List, [], ◌∷◌, ◌++◌, Some, None, false, slice_get, Contains, refl, subst, arith}
+use Rattle.fs_types.proofs.Common.{codes, none-some, same_Some}
+use Rattle.fs_script.specs.Vocabulary.{Answer, answer_at, OpLine, Text, Job, phase, program, op_lines, Answering, pending_at, state, front}
+use Rattle.fs_script.specs.Vocabulary.{is_open, Fits, committed, IsLegalEntry, IsLegalJournal}
 use Rattle.fs_script.proofs.FiveLines.{path_a, on_a, five_shape}
 use Rattle.fs_types.specs.declared.answer.Answer.TheVariants as answers
 use Rattle.fs_types.specs.declared.answer.Body.TheVariants as bodies

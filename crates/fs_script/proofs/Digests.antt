@@ -1,21 +1,6 @@
 -- A digest is sixteen bytes.
-use Rattle.fs_types.proofs.Common.{
-  ℕ,
-  zero,
-  suc,
-  ◌<◌,
-  List,
-  arith,
-  slice_index,
-  w32,
-  byte_at,
-  bytes_low_first,
-  to_le_bytes,
-  All-nil,
-  All-cons,
-  All-append,
-  recursion_from_All,
-}
+use Rattle.fs_types.proofs.Common.{ℕ, zero, suc, ◌<◌, List, arith, slice_index, w32, byte_at, bytes_low_first, to_le_bytes, All-nil}
+use Rattle.fs_types.proofs.Common.{All-cons, All-append, recursion_from_All}
 use Rattle.md5.specs.Md5.{md5, digest_bytes}
 use Rattle.fs_script.specs.Vocabulary.{IsDigest}
 use Rattle.md5.proofs.StandardFacts.{length-md5}

@@ -1,53 +1,9 @@
 -- The files of a job: each is no longer than the longest, and its places are bytes.
-use Rattle.fs_types.proofs.Common.{
-  ◌≡◌,
-  ℕ,
-  ◌<◌,
-  ◌≤◌,
-  true,
-  List,
-  [],
-  ◌∷◌,
-  length,
-  take,
-  Option,
-  Some,
-  None,
-  IfSome,
-  All,
-  refl,
-  arith,
-  cond_both,
-  nat_tests,
-  All-nil,
-  All-weaker,
-  AllPass-from_list_all,
-}
-use Rattle.fs_script.specs.Vocabulary.{
-  LONGEST_FILE,
-  File,
-  written,
-  OpLine,
-  Op,
-  Text,
-  Job,
-  op_at,
-  brought,
-  brought_in,
-  bytes_brought,
-  payload,
-  offset,
-  bytes_of,
-  Answering,
-  pending_at,
-  put_lines,
-  is_enabled,
-  makes,
-  effect_in,
-  effect,
-  after_all,
-  state,
-}
+use Rattle.fs_types.proofs.Common.{◌≡◌, ℕ, ◌<◌, ◌≤◌, true, List, [], ◌∷◌, length, take, Option, Some, None, IfSome, All, refl, arith}
+use Rattle.fs_types.proofs.Common.{cond_both, nat_tests, All-nil, All-weaker, AllPass-from_list_all}
+use Rattle.fs_script.specs.Vocabulary.{LONGEST_FILE, File, written, OpLine, Op, Text, Job, op_at, brought, brought_in, bytes_brought}
+use Rattle.fs_script.specs.Vocabulary.{payload, offset, bytes_of, Answering, pending_at, put_lines, is_enabled, makes, effect_in, effect}
+use Rattle.fs_script.specs.Vocabulary.{after_all, state}
 use Rattle.fs_script.specs.TextBytes.{is_text_byte}
 use Rattle.fs_script.specs.Grammar.{IsJob, IsOp, IsOpLine}
 use Rattle.fs_types.proofs.CallerLemmas.{All-written, length-written}

@@ -1,47 +1,8 @@
 -- The script of five lines, read, and its states, fronts and pending writes, worked out by hand.
-use Rattle.fs_types.proofs.Common.{
-  ◌≡◌,
-  ℕ,
-  ◌++◌,
-  List,
-  [],
-  ◌∷◌,
-  Some,
-  None,
-  Ok,
-  zero,
-  suc,
-  ◌<◌,
-  ◌≤◌,
-  Contains,
-  slice_get,
-  false,
-  refl,
-  subst,
-  arith,
-  codes,
-  none-some,
-  same_Some,
-}
-use Rattle.fs_script.specs.Vocabulary.{
-  Answer,
-  Op,
-  OpLine,
-  Shape,
-  Text,
-  Job,
-  rank_at,
-  phase,
-  Answering,
-  pending_at,
-  state,
-  front,
-  Fits,
-  committed,
-  IsLegalEntry,
-  IsLegalJournal,
-  answer_at,
-}
+use Rattle.fs_types.proofs.Common.{◌≡◌, ℕ, ◌++◌, List, [], ◌∷◌, Some, None, Ok, zero, suc, ◌<◌, ◌≤◌, Contains, slice_get, false, refl}
+use Rattle.fs_types.proofs.Common.{subst, arith, codes, none-some, same_Some}
+use Rattle.fs_script.specs.Vocabulary.{Answer, Op, OpLine, Shape, Text, Job, rank_at, phase, Answering, pending_at, state, front, Fits}
+use Rattle.fs_script.specs.Vocabulary.{committed, IsLegalEntry, IsLegalJournal, answer_at}
 use Rattle.fs_script.specs.Reading.{job_of}
 use Rattle.fs_types.specs.declared.answer.Answer.TheVariants as answers
 use Rattle.fs_types.specs.declared.answer.Body.TheVariants as bodies

@@ -1,62 +1,10 @@
 -- A line that is answered now: its front is at most the present length of the journal, and which versions it may print.
-use Rattle.fs_types.proofs.Common.{
-  ◌≡◌,
-  ℕ,
-  zero,
-  suc,
-  ◌≤◌,
-  ◌<◌,
-  List,
-  [],
-  ◌∷◌,
-  length,
-  Option,
-  Some,
-  None,
-  IsSome,
-  ◌++◌,
-  ◌==◌,
-  ◌&&◌,
-  bytes_eq,
-  eqb-true,
-  refl,
-  sym,
-  ap,
-  ◌∙◌,
-  arith,
-  ⊤,
-  none-some,
-  cond_some,
-  MatchOption-at_some,
-  and_parts,
-  length_push,
-  bytes_eq-Decides,
-  AllByRecursion,
-}
-use Rattle.fs_script.specs.Vocabulary.{
-  Answer,
-  OpLine,
-  Op,
-  Job,
-  op_at,
-  rank_at,
-  rank_in,
-  own_op,
-  own_at,
-  phase,
-  Answering,
-  one_more,
-  version_of,
-  at_least,
-  seen,
-  front,
-  IsNoLater,
-  IsInReach,
-  IsLegalJournal,
-  AllFit,
-  ComesNext,
-  IsOfNoEarlierPhase,
-}
+use Rattle.fs_types.proofs.Common.{◌≡◌, ℕ, zero, suc, ◌≤◌, ◌<◌, List, [], ◌∷◌, length, Option, Some, None, IsSome, ◌++◌, ◌==◌, ◌&&◌}
+use Rattle.fs_types.proofs.Common.{bytes_eq, eqb-true, refl, sym, ap, ◌∙◌, arith, ⊤, none-some, cond_some, MatchOption-at_some, and_parts}
+use Rattle.fs_types.proofs.Common.{length_push, bytes_eq-Decides, AllByRecursion}
+use Rattle.fs_script.specs.Vocabulary.{Answer, OpLine, Op, Job, op_at, rank_at, rank_in, own_op, own_at, phase, Answering, one_more}
+use Rattle.fs_script.specs.Vocabulary.{version_of, at_least, seen, front, IsNoLater, IsInReach, IsLegalJournal, AllFit, ComesNext}
+use Rattle.fs_script.specs.Vocabulary.{IsOfNoEarlierPhase}
 use Rattle.fs_script.proofs.Fronts.{of_earlier_phases-le-length, front-push}
 use Rattle.fs_script.proofs.JournalGrows.{answered-in_journal}
 use Rattle.fs_script.proofs.PlainLists.{AllByRecursion-from_get, AllByRecursion-at, AllByRecursion-take, some_of, AllByRecursion-push}

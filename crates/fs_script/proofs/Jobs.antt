@@ -1,24 +1,6 @@
 -- What a job within the limits says of each of its lines.
-use Rattle.fs_types.proofs.Common.{
-  ◌≡◌,
-  ℕ,
-  zero,
-  suc,
-  ◌+◌,
-  ◌<◌,
-  ◌≤◌,
-  List,
-  [],
-  ◌∷◌,
-  length,
-  Some,
-  inl,
-  subst,
-  arith,
-  slice_get,
-  AllByRecursion,
-  same_Some,
-}
+use Rattle.fs_types.proofs.Common.{◌≡◌, ℕ, zero, suc, ◌+◌, ◌<◌, ◌≤◌, List, [], ◌∷◌, length, Some, inl, subst, arith, slice_get}
+use Rattle.fs_types.proofs.Common.{AllByRecursion, same_Some}
 use Rattle.fs_script.specs.Vocabulary.{Shape, Line, OpLine, Job, operation, op_at, AreTold}
 use Rattle.fs_script.specs.Grammar.{IsJob, IsLine, IsOpLine}
 use Rattle.fs_script.specs.declared.line.Line.TheVariants as lines

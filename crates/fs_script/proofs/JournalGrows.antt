@@ -1,72 +1,11 @@
 -- A legal journal stays legal as an answer comes: unchanged where the answer commits nothing, and with the line at its end where it does.
-use Rattle.fs_types.proofs.Common.{
-  ◌≡◌,
-  ◌≢◌,
-  ℕ,
-  suc,
-  ◌≤◌,
-  ◌<◌,
-  true,
-  List,
-  [],
-  ◌∷◌,
-  ◌++◌,
-  length,
-  Option,
-  Some,
-  None,
-  IsSome,
-  is_some,
-  cond,
-  ◌==◌,
-  ◌&&◌,
-  bytes_eq,
-  slice_get,
-  Contains,
-  true≢false,
-  eqb-true,
-  refl,
-  sym,
-  ap,
-  ◌∙◌,
-  subst,
-  subst₂,
-  inl,
-  inr,
-  arith,
-  cases_eq,
-  cases_Bool,
-  and_parts,
-  none-some,
-  slice_get_within,
-  Contains-append_left,
-  Contains-push,
-}
-use Rattle.fs_script.specs.Vocabulary.{
-  Answer,
-  OpLine,
-  Job,
-  op_at,
-  rank_at,
-  rank_in,
-  own_op,
-  phase,
-  bytes_of,
-  Answering,
-  pending_for,
-  pending_at,
-  is_enabled,
-  state,
-  committed,
-  enabled_in,
-  IsLegalEntry,
-  IsLegalJournal,
-  AgreeBefore,
-  AddsAnswer,
-  ComesNext,
-  IsOfNoEarlierPhase,
-  SamePending,
-}
+use Rattle.fs_types.proofs.Common.{◌≡◌, ◌≢◌, ℕ, suc, ◌≤◌, ◌<◌, true, List, [], ◌∷◌, ◌++◌, length, Option, Some, None, IsSome, is_some, cond}
+use Rattle.fs_types.proofs.Common.{◌==◌, ◌&&◌, bytes_eq, slice_get, Contains, true≢false, eqb-true, refl, sym, ap, ◌∙◌, subst, subst₂, inl}
+use Rattle.fs_types.proofs.Common.{inr, arith, cases_eq, cases_Bool, and_parts, none-some, slice_get_within, Contains-append_left}
+use Rattle.fs_types.proofs.Common.{Contains-push}
+use Rattle.fs_script.specs.Vocabulary.{Answer, OpLine, Job, op_at, rank_at, rank_in, own_op, phase, bytes_of, Answering, pending_for}
+use Rattle.fs_script.specs.Vocabulary.{pending_at, is_enabled, state, committed, enabled_in, IsLegalEntry, IsLegalJournal, AgreeBefore}
+use Rattle.fs_script.specs.Vocabulary.{AddsAnswer, ComesNext, IsOfNoEarlierPhase, SamePending}
 use Rattle.fs_script.proofs.Agreement.{pending-agree, committed-agree, committed-unanswered}
 use Rattle.fs_script.proofs.PlainLists.{AllByRecursion-at, slice_get-push_cases, slice_get-push_below, AllByRecursion-from_get, some_of}
 use Rattle.fs_script.proofs.States.{state_in-agree, state_in-push}

@@ -1,33 +1,7 @@
 -- The lines of a legal journal: operations of the job, no two of them one, and so no more than the job has lines.
-use Rattle.fs_types.proofs.Common.{
-  ◌≡◌,
-  ℕ,
-  suc,
-  ◌+◌,
-  ◌<◌,
-  ◌≤◌,
-  ◌==◌,
-  List,
-  length,
-  get_or,
-  Option,
-  Some,
-  None,
-  ap,
-  ◌∙◌,
-  refl,
-  All,
-  arith,
-  IsDistinct,
-  eqb-true,
-  ne_eqb,
-  none-some,
-  slice_get-get_or,
-  All-contains,
-  IsDistinct-from_apart,
-  length-le_from_distinct_below,
-  Contains-from_any,
-}
+use Rattle.fs_types.proofs.Common.{◌≡◌, ℕ, suc, ◌+◌, ◌<◌, ◌≤◌, ◌==◌, List, length, get_or, Option, Some, None, ap, ◌∙◌, refl, All, arith}
+use Rattle.fs_types.proofs.Common.{IsDistinct, eqb-true, ne_eqb, none-some, slice_get-get_or, All-contains, IsDistinct-from_apart}
+use Rattle.fs_types.proofs.Common.{length-le_from_distinct_below, Contains-from_any}
 use Rattle.fs_script.specs.Vocabulary.{OpLine, Job, op_at, Answering, commit_in, IsLegalJournal}
 use Rattle.fs_script.proofs.Jobs.{op_at-within}
 

@@ -1,77 +1,12 @@
 -- A legal report of a job is printable, where the bytes that it shows are compared.
-use Rattle.fs_types.proofs.Common.{
-  ◌≡◌,
-  ℕ,
-  ◌+◌,
-  ◌^◌,
-  ◌<◌,
-  true,
-  false,
-  List,
-  [],
-  ◌∷◌,
-  length,
-  map,
-  get_or,
-  take,
-  Some,
-  IsSome,
-  is_some,
-  None,
-  bytes_eq,
-  Ordering,
-  Less,
-  Equal,
-  Greater,
-  refl,
-  sym,
-  ap,
-  ◌∙◌,
-  subst,
-  All,
-  arith,
-  AllByRecursion,
-  range_with_len,
-  nat_cmp,
-  is_lt,
-  is_eq,
-  slice_cmp,
-  cond-true,
-  cond-false,
-  length-map,
-  All-from_recursion,
-  recursion_from_All,
-  All-weaker,
-  All-contains_itself,
-  filter_passes,
-  is_eq-slice_cmp,
-  same_Some,
-  bytes_eq-Decides,
-}
-use Rattle.fs_script.specs.Vocabulary.{
-  Answer,
-  FileState,
-  IsPath,
-  File,
-  DIGEST_LIMIT,
-  Job,
-  op_at,
-  Names,
-  state,
-  AreTold,
-  Report,
-  journal_of,
-  AreRising,
-  file_state_of,
-  IsLegal,
-  answers_of,
-  IsPrintableAnswer,
-  IsPrintableLine,
-  IsPrintableJournal,
-  IsPrintableState,
-  IsPrintableFile,
-  IsPrintable,
-}
+use Rattle.fs_types.proofs.Common.{◌≡◌, ℕ, ◌+◌, ◌^◌, ◌<◌, true, false, List, [], ◌∷◌, length, map, get_or, take, Some, IsSome, is_some}
+use Rattle.fs_types.proofs.Common.{None, bytes_eq, Ordering, Less, Equal, Greater, refl, sym, ap, ◌∙◌, subst, All, arith, AllByRecursion}
+use Rattle.fs_types.proofs.Common.{range_with_len, nat_cmp, is_lt, is_eq, slice_cmp, cond-true, cond-false, length-map, All-from_recursion}
+use Rattle.fs_types.proofs.Common.{recursion_from_All, All-weaker, All-contains_itself, filter_passes, is_eq-slice_cmp, same_Some}
+use Rattle.fs_types.proofs.Common.{bytes_eq-Decides}
+use Rattle.fs_script.specs.Vocabulary.{Answer, FileState, IsPath, File, DIGEST_LIMIT, Job, op_at, Names, state, AreTold, Report, journal_of}
+use Rattle.fs_script.specs.Vocabulary.{AreRising, file_state_of, IsLegal, answers_of, IsPrintableAnswer, IsPrintableLine}
+use Rattle.fs_script.specs.Vocabulary.{IsPrintableJournal, IsPrintableState, IsPrintableFile, IsPrintable}
 use Rattle.fs_script.specs.Grammar.{IsJob}
 use Rattle.fs_types.proofs.CallerLemmas.{answer_at-each}
 use Rattle.fs_script.proofs.AnsweredLines.{rising-passing}

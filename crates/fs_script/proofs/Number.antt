@@ -1,42 +1,8 @@
 -- Numerals: the number that is read, and the one text of each number.
-use Rattle.fs_types.proofs.Common.{
-  ◌≡◌,
-  ℕ,
-  ◌+◌,
-  ◌-◌,
-  ◌*◌,
-  ◌^◌,
-  ◌<◌,
-  ◌≤◌,
-  true,
-  ◌&&◌,
-  List,
-  [],
-  ◌∷◌,
-  length,
-  get_or,
-  take,
-  Some,
-  None,
-  refl,
-  ap,
-  ◌∙◌,
-  arith,
-  lit≤,
-  list_all,
-  is_ascii_digit,
-  digit_value,
-  all_ascii_digits,
-  digits_value,
-  and_parts,
-  nat_tests,
-  digits_value_more,
-  IsNumeralModel,
-  numerals_by_value,
-  tells_all_ascii_digits,
-  digit_at,
-  digits_value-take-le,
-}
+use Rattle.fs_types.proofs.Common.{◌≡◌, ℕ, ◌+◌, ◌-◌, ◌*◌, ◌^◌, ◌<◌, ◌≤◌, true, ◌&&◌, List, [], ◌∷◌, length, get_or, take, Some, None, refl}
+use Rattle.fs_types.proofs.Common.{ap, ◌∙◌, arith, lit≤, list_all, is_ascii_digit, digit_value, all_ascii_digits, digits_value, and_parts}
+use Rattle.fs_types.proofs.Common.{nat_tests, digits_value_more, IsNumeralModel, numerals_by_value, tells_all_ascii_digits, digit_at}
+use Rattle.fs_types.proofs.Common.{digits_value-take-le}
 use Rattle.fs_script.specs.Reading.{is_numeral, number_of}
 
 pub own : IsNumeralModel (λ ds. all_ascii_digits ds ≡ true) (digits_value 10)

@@ -1,57 +1,10 @@
 -- An answer that fits a legal journal is printable, where the bytes that it shows are compared.
-use Rattle.fs_types.proofs.Common.{
-  ◌≡◌,
-  ℕ,
-  ◌^◌,
-  ◌<◌,
-  ◌≤◌,
-  nat_le,
-  List,
-  length,
-  drop,
-  Option,
-  Some,
-  None,
-  sym,
-  subst,
-  arith,
-  div_ceil,
-  div-le_self,
-  cond_both,
-  leb-true,
-  All-take,
-  All-drop,
-  recursion_from_All,
-}
+use Rattle.fs_types.proofs.Common.{◌≡◌, ℕ, ◌^◌, ◌<◌, ◌≤◌, nat_le, List, length, drop, Option, Some, None, sym, subst, arith, div_ceil}
+use Rattle.fs_types.proofs.Common.{div-le_self, cond_both, leb-true, All-take, All-drop, recursion_from_All}
 use Rattle.md5.specs.Md5.{md5}
-use Rattle.fs_script.specs.Vocabulary.{
-  Answer,
-  Body,
-  HEX_LIMIT,
-  TRANSFER_LIMIT,
-  shown,
-  File,
-  OpLine,
-  Op,
-  Text,
-  Job,
-  op_at,
-  brought,
-  Range,
-  asked,
-  Answering,
-  state,
-  AreTold,
-  LineView,
-  line_view,
-  Accepts,
-  ShowsAsked,
-  Fits,
-  body_of,
-  IsLegalJournal,
-  IsPrintableBody,
-  IsPrintableAnswer,
-}
+use Rattle.fs_script.specs.Vocabulary.{Answer, Body, HEX_LIMIT, TRANSFER_LIMIT, shown, File, OpLine, Op, Text, Job, op_at, brought, Range}
+use Rattle.fs_script.specs.Vocabulary.{asked, Answering, state, AreTold, LineView, line_view, Accepts, ShowsAsked, Fits, body_of}
+use Rattle.fs_script.specs.Vocabulary.{IsLegalJournal, IsPrintableBody, IsPrintableAnswer}
 use Rattle.fs_script.specs.Grammar.{IsJob, IsOp}
 use Rattle.fs_types.proofs.CallerLemmas.{length-shown}
 use Rattle.fs_script.proofs.Digests.{IsDigest-md5}

@@ -1,39 +1,8 @@
 -- The file after some lines of a journal: as the journal grows at its end, and as answers come that change nothing pending at its lines.
-use Rattle.fs_types.proofs.Common.{
-  ◌≡◌,
-  ℕ,
-  suc,
-  ◌≤◌,
-  List,
-  [],
-  ◌∷◌,
-  ◌++◌,
-  length,
-  take,
-  None,
-  refl,
-  sym,
-  ap,
-  ◌∙◌,
-  take_all,
-  arith,
-  take-append-le,
-  length_push,
-}
-use Rattle.fs_script.specs.Vocabulary.{
-  File,
-  written,
-  Job,
-  Cells,
-  offset,
-  Answering,
-  pending_at,
-  put_lines,
-  effect,
-  after_all,
-  state_in,
-  SamePending,
-}
+use Rattle.fs_types.proofs.Common.{◌≡◌, ℕ, suc, ◌≤◌, List, [], ◌∷◌, ◌++◌, length, take, None, refl, sym, ap, ◌∙◌, take_all, arith}
+use Rattle.fs_types.proofs.Common.{take-append-le, length_push}
+use Rattle.fs_script.specs.Vocabulary.{File, written, Job, Cells, offset, Answering, pending_at, put_lines, effect, after_all, state_in}
+use Rattle.fs_script.specs.Vocabulary.{SamePending}
 use Rattle.fs_script.proofs.Agreement.{effect-agree}
 use Rattle.fs_script.proofs.PlainLists.{AllByRecursion-take}
 

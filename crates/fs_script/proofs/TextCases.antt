@@ -1,25 +1,7 @@
 -- The texts of some reports, written out.
 use Rattle.std.specs.Fmt.{digits}
-use Rattle.fs_types.proofs.Common.{
-  ◌≡◌,
-  ℕ,
-  List,
-  ◌<◌,
-  [],
-  ◌∷◌,
-  ◌++◌,
-  true,
-  false,
-  codes,
-  refl,
-  arith,
-  nat_lt,
-  list_all,
-  nat_tests,
-  All-weaker,
-  recursion_from_All,
-  AllPass-from_list_all,
-}
+use Rattle.fs_types.proofs.Common.{◌≡◌, ℕ, List, ◌<◌, [], ◌∷◌, ◌++◌, true, false, codes, refl, arith, nat_lt, list_all, nat_tests}
+use Rattle.fs_types.proofs.Common.{All-weaker, recursion_from_All, AllPass-from_list_all}
 use Rattle.fs_script.specs.Vocabulary.{Report, AreBytes, IsPrintable, text, answer_line, journal_line, file_line, path_lines, line_feed}
 use Rattle.hex.proofs.OnLiterals.{hex_on_literals}
 use Rattle.fs_script.proofs.FiveLines.{path_a, five_journal}

@@ -12,93 +12,24 @@ pub use Rattle.fs_types.specs.declared.status.Status.{Status}
 pub use Rattle.fs_types.specs.declared.status.Status.TheVariants.{Done, Usage, ReadFault, WriteFault, Memory}
 pub use Rattle.fs_script.specs.AnswerKinds.{version_of, done_at}
 pub use Rattle.fs_script.specs.Effect.{state, put_lines, effect, after_all, state_in, is_enabled, effect_in, makes, effect_of}
-pub use Rattle.fs_script.specs.Fits.{
-  Fits,
-  AreTold,
-  LineView,
-  line_view,
-  Accepts,
-  ShowsAsked,
-  body_of,
-  IsInTable,
-  IsNoLater,
-  IsInReach,
-  entry,
-  AgreesWithOpen,
-  MayWrite,
-  IsAtFront,
-  EndsPast,
-}
+pub use Rattle.fs_script.specs.Fits.{Fits, AreTold, LineView, line_view, Accepts, ShowsAsked, body_of, IsInTable, IsNoLater, IsInReach}
+pub use Rattle.fs_script.specs.Fits.{entry, AgreesWithOpen, MayWrite, IsAtFront, EndsPast}
 pub use Rattle.fs_script.specs.Front.{front, at_least, seen, is_open, of_earlier_phases, opens}
 pub use Rattle.fs_script.specs.Growth.{SamePending, AddsAnswer, IsOfNoEarlierPhase, AllFit, AgreeBefore, ComesNext}
-pub use Rattle.fs_script.specs.Job.{
-  Job,
-  rank_at,
-  phase,
-  op_at,
-  op_lines,
-  line_at,
-  rank_in,
-  Names,
-  own_op,
-  operation,
-  own_at,
-  program,
-  is_of_rank,
-  is_barrier,
-}
+pub use Rattle.fs_script.specs.Job.{Job, rank_at, phase, op_at, op_lines, line_at, rank_in, Names, own_op, operation, own_at, program}
+pub use Rattle.fs_script.specs.Job.{is_of_rank, is_barrier}
 pub use Rattle.fs_script.specs.Journal.{committed, IsLegalEntry, IsLegalJournal, commit_in, commit_by, enabled_in, commit_of}
 pub use Rattle.fs_script.specs.Operations.{Range, asked, commits, has_any, needs_open}
-pub use Rattle.fs_script.specs.Payload.{
-  Cells,
-  offset,
-  brought,
-  bytes_of,
-  Write,
-  brought_in,
-  bytes_brought,
-  payload,
-  parts_of,
-  write_at,
-  data_bytes,
-}
+pub use Rattle.fs_script.specs.Payload.{Cells, offset, brought, bytes_of, Write, brought_in, bytes_brought, payload, parts_of, write_at}
+pub use Rattle.fs_script.specs.Payload.{data_bytes}
 pub use Rattle.fs_script.specs.Pending.{Answering, pending_at, pending, pending_for, one_more, after_answer, over_answers}
-pub use Rattle.fs_script.specs.Printable.{
-  AreBytes,
-  IsPrintableBody,
-  IsPrintableAnswer,
-  IsPrintableLine,
-  IsPrintableJournal,
-  IsPrintableState,
-  IsPrintableFile,
-  IsPrintable,
-  IsDigest,
-}
-pub use Rattle.fs_script.specs.Report.{
-  Report,
-  HasShape,
-  FilesAreStates,
-  IsLegal,
-  answers_of,
-  journal_of,
-  AreRising,
-  file_state_of,
-  ArePaths,
-}
+pub use Rattle.fs_script.specs.Printable.{AreBytes, IsPrintableBody, IsPrintableAnswer, IsPrintableLine, IsPrintableJournal}
+pub use Rattle.fs_script.specs.Printable.{IsPrintableState, IsPrintableFile, IsPrintable, IsDigest}
+pub use Rattle.fs_script.specs.Report.{Report, HasShape, FilesAreStates, IsLegal, answers_of, journal_of, AreRising, file_state_of}
+pub use Rattle.fs_script.specs.Report.{ArePaths}
 pub use Rattle.fs_script.specs.SoFar.{IsLegalSoFar, Journals, IsNextAnswer, Pushes}
-pub use Rattle.fs_script.specs.Text.{
-  text,
-  answer_text,
-  answer_line,
-  body_text,
-  entry_text,
-  journal_line,
-  flag_text,
-  file_text,
-  file_line,
-  path_lines,
-  line_feed,
-}
+pub use Rattle.fs_script.specs.Text.{text, answer_text, answer_line, body_text, entry_text, journal_line, flag_text, file_text, file_line}
+pub use Rattle.fs_script.specs.Text.{path_lines, line_feed}
 pub use Rattle.fs_script.specs.declared.fault.Reason.{Reason}
 pub use Rattle.fs_script.specs.declared.fault.ScriptFault.{ScriptFault}
 pub use Rattle.fs_script.specs.declared.limits.TheConstants.{TRANSFER_LIMIT, DIGEST_LIMIT}

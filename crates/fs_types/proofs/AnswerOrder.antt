@@ -1,44 +1,10 @@
 -- Lists of answers stay in the order of their lines.
-use Rattle.fs_types.proofs.Common.{
-  ◌≡◌,
-  ℕ,
-  suc,
-  ◌<◌,
-  ◌≤◌,
-  ◌==◌,
-  List,
-  [],
-  ◌∷◌,
-  ◌++◌,
-  Some,
-  None,
-  refl,
-  sym,
-  ap,
-  ◌∙◌,
-  subst,
-  if◌then◌else◌,
-  arith,
-  ◌⊎◌,
-  inl,
-  inr,
-  All,
-  nat_tests,
-  AllByRecursion,
-  All-head,
-  All-tail,
-  All-from_recursion,
-}
+use Rattle.fs_types.proofs.Common.{◌≡◌, ℕ, suc, ◌<◌, ◌≤◌, ◌==◌, List, [], ◌∷◌, ◌++◌, Some, None, refl, sym, ap, ◌∙◌, subst, if◌then◌else◌}
+use Rattle.fs_types.proofs.Common.{arith, ◌⊎◌, inl, inr, All, nat_tests, AllByRecursion, All-head, All-tail, All-from_recursion}
 use Rattle.fs_types.specs.AnswerList.{answer_at, put_answer, answers_given, IsRising, IsRisingFrom}
 use Rattle.fs_types.specs.declared.answer.Answer.{Answer}
-use Rattle.fs_types.proofs.Tables.{
-  answer_at-same,
-  answer_at-other,
-  put_answer-before,
-  put_answer-over,
-  put_answer-after,
-  IsRisingFrom-lower,
-}
+use Rattle.fs_types.proofs.Tables.{answer_at-same, answer_at-other, put_answer-before, put_answer-over, put_answer-after}
+use Rattle.fs_types.proofs.Tables.{IsRisingFrom-lower}
 
 -- how a line stands to another
 pub cases_line : (m n : ℕ) → (m < n) ⊎ ((m ≡ n) ⊎ (n < m))

@@ -1,51 +1,9 @@
 -- Paths and names in other words.
-use Rattle.fs_types.proofs.Common.{
-  ◌≡◌,
-  ℕ,
-  ◌+◌,
-  ◌<◌,
-  ◌≤◌,
-  ◌==◌,
-  nat_eq,
-  nat_le,
-  true,
-  false,
-  ◌&&◌,
-  not,
-  List,
-  [],
-  ◌∷◌,
-  ◌++◌,
-  length,
-  drop,
-  refl,
-  sym,
-  ap,
-  ◌∙◌,
-  subst,
-  arith,
-  All,
-  codes,
-  leb-true,
-  and_parts,
-  and_from,
-  nat_tests,
-  Decides-eqb,
-  common_steps,
-  starts_is,
-  All-weaker,
-  list_all-append,
-  AllPass-from_list_all,
-  list_all-from_AllPass,
-  join_with_byte-slice_split,
-  length-slice_split,
-  slice_split_at,
-  slice_split_none,
-  bytes_eq,
-  list_all,
-  join_with_byte,
-  starts_with,
-}
+use Rattle.fs_types.proofs.Common.{◌≡◌, ℕ, ◌+◌, ◌<◌, ◌≤◌, ◌==◌, nat_eq, nat_le, true, false, ◌&&◌, not, List, [], ◌∷◌, ◌++◌, length, drop}
+use Rattle.fs_types.proofs.Common.{refl, sym, ap, ◌∙◌, subst, arith, All, codes, leb-true, and_parts, and_from, nat_tests, Decides-eqb}
+use Rattle.fs_types.proofs.Common.{common_steps, starts_is, All-weaker, list_all-append, AllPass-from_list_all, list_all-from_AllPass}
+use Rattle.fs_types.proofs.Common.{join_with_byte-slice_split, length-slice_split, slice_split_at, slice_split_none, bytes_eq, list_all}
+use Rattle.fs_types.proofs.Common.{join_with_byte, starts_with}
 use Rattle.fs_types.specs.PathText.{IsPath, is_component, is_name_character, between_slashes, mount_point}
 use Rattle.fs_types.specs.NameText.{IsName, is_name_part}
 use Rattle.fs_types.specs.PathLaws.{IsMountedText, IsVisible}

@@ -1,51 +1,8 @@
 -- What stands at each place of a list after overwriting, cutting and showing it, and how long it is.
-use Rattle.fs_types.proofs.Common.{
-  ◌≡◌,
-  ℕ,
-  zero,
-  suc,
-  ◌+◌,
-  ◌-◌,
-  ◌<◌,
-  ◌≤◌,
-  max,
-  min,
-  cond,
-  ltb,
-  leb,
-  List,
-  [],
-  ◌∷◌,
-  ◌++◌,
-  length,
-  take,
-  drop,
-  replicate,
-  get_or,
-  refl,
-  ap,
-  ◌∙◌,
-  arith,
-  inl,
-  inr,
-  All,
-  ◌&&◌,
-  cases_lt,
-  nat_tests,
-  length-append,
-  length-take,
-  length-take-le,
-  length-drop,
-  length-replicate,
-  get_or_append_left,
-  get_or-append_right,
-  get_or-take,
-  get_or-drop,
-  All-append,
-  All-take,
-  All-drop,
-  All-replicate,
-}
+use Rattle.fs_types.proofs.Common.{◌≡◌, ℕ, zero, suc, ◌+◌, ◌-◌, ◌<◌, ◌≤◌, max, min, cond, ltb, leb, List, [], ◌∷◌, ◌++◌, length, take, drop}
+use Rattle.fs_types.proofs.Common.{replicate, get_or, refl, ap, ◌∙◌, arith, inl, inr, All, ◌&&◌, cases_lt, nat_tests, length-append}
+use Rattle.fs_types.proofs.Common.{length-take, length-take-le, length-drop, length-replicate, get_or_append_left, get_or-append_right}
+use Rattle.fs_types.proofs.Common.{get_or-take, get_or-drop, All-append, All-take, All-drop, All-replicate}
 use Rattle.fs_types.specs.Overwrite.{extended, put, cut, shown}
 
 -- a place of blanks is a blank, also past their end

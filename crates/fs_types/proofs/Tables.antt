@@ -1,35 +1,6 @@
 -- How a table of answers is read as a list of lines.
-use Rattle.fs_types.proofs.Common.{
-  All,
-  ◌≡◌,
-  ◌≢◌,
-  ℕ,
-  zero,
-  suc,
-  ◌+◌,
-  ◌-◌,
-  ◌<◌,
-  ◌≤◌,
-  List,
-  [],
-  ◌∷◌,
-  ◌++◌,
-  length,
-  get_or,
-  set,
-  Option,
-  Some,
-  None,
-  refl,
-  sym,
-  ap,
-  subst,
-  ◌∙◌,
-  arith,
-  nat_tests,
-  All-nil,
-  All-cons,
-}
+use Rattle.fs_types.proofs.Common.{All, ◌≡◌, ◌≢◌, ℕ, zero, suc, ◌+◌, ◌-◌, ◌<◌, ◌≤◌, List, [], ◌∷◌, ◌++◌, length, get_or, set, Option, Some}
+use Rattle.fs_types.proofs.Common.{None, refl, sym, ap, subst, ◌∙◌, arith, nat_tests, All-nil, All-cons}
 use Rattle.fs_types.specs.AnswerList.{Given, answer_at, put_answer, listed, IsRisingFrom}
 use Rattle.fs_types.specs.declared.answer.Answer.{Answer}
 

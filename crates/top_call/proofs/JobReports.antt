@@ -1,29 +1,6 @@
 -- The report of a run, made path by path.
-use Rattle.fs_types.proofs.Common.{
-  ◌≡◌,
-  ℕ,
-  ◌+◌,
-  List,
-  [],
-  ◌∷◌,
-  ◌++◌,
-  map,
-  take,
-  Some,
-  refl,
-  sym,
-  ap,
-  subst,
-  ◌∙◌,
-  add-one,
-  take-suc,
-  map-append,
-  slice_get_within,
-  get_or_from_slice_get,
-  slice_get-map,
-  slice_get,
-  option_map,
-}
+use Rattle.fs_types.proofs.Common.{◌≡◌, ℕ, ◌+◌, List, [], ◌∷◌, ◌++◌, map, take, Some, refl, sym, ap, subst, ◌∙◌, add-one, take-suc}
+use Rattle.fs_types.proofs.Common.{map-append, slice_get_within, get_or_from_slice_get, slice_get-map, slice_get, option_map}
 use Rattle.fs_script.specs.Vocabulary.{FileState, file_state_of}
 use Rattle.core_machine.specs.Vocabulary.{Moment, file_now, report_of}
 use Rattle.top_call.specs.declared.report.JobReport.{JobReport}

@@ -1,29 +1,6 @@
 -- Runs that go on by one event, and the journals that they leave.
-use Rattle.fs_types.proofs.Common.{
-  ◌≡◌,
-  ℕ,
-  zero,
-  suc,
-  false,
-  cond,
-  List,
-  [],
-  ◌∷◌,
-  ◌++◌,
-  map,
-  Option,
-  Some,
-  None,
-  refl,
-  sym,
-  ap,
-  subst,
-  ◌∙◌,
-  slice_get,
-  Contains,
-  bytes_eq,
-  same_Some,
-}
+use Rattle.fs_types.proofs.Common.{◌≡◌, ℕ, zero, suc, false, cond, List, [], ◌∷◌, ◌++◌, map, Option, Some, None, refl, sym, ap, subst, ◌∙◌}
+use Rattle.fs_types.proofs.Common.{slice_get, Contains, bytes_eq, same_Some}
 use Rattle.fs_script.specs.Vocabulary.{IsPath, AreRising, journal_of, Job, op_at, Names}
 use Rattle.fs_script.specs.declared.line.OpLine.{OpLine}
 use Rattle.fs_script.specs.Grammar.{IsJob}

@@ -1,39 +1,7 @@
 -- The texts of lists, one element after another.
-use Rattle.fs_types.proofs.Common.{
-  ◌≡◌,
-  ◌≢◌,
-  ℕ,
-  suc,
-  ◌+◌,
-  ◌<◌,
-  ◌≤◌,
-  List,
-  [],
-  ◌∷◌,
-  ◌++◌,
-  map,
-  Some,
-  None,
-  refl,
-  sym,
-  ap,
-  subst,
-  ◌∙◌,
-  append_assoc,
-  append-nil,
-  arith,
-  inl,
-  inr,
-  if◌then◌else◌,
-  All,
-  codes,
-  nat_lt,
-  flat_map,
-  nat_tests,
-  flat_map_more,
-  All-head,
-  All-tail,
-}
+use Rattle.fs_types.proofs.Common.{◌≡◌, ◌≢◌, ℕ, suc, ◌+◌, ◌<◌, ◌≤◌, List, [], ◌∷◌, ◌++◌, map, Some, None, refl, sym, ap, subst, ◌∙◌}
+use Rattle.fs_types.proofs.Common.{append_assoc, append-nil, arith, inl, inr, if◌then◌else◌, All, codes, nat_lt, flat_map, nat_tests}
+use Rattle.fs_types.proofs.Common.{flat_map_more, All-head, All-tail}
 use Rattle.fs_script.specs.Vocabulary.{answer_at, IsRisingFrom, Answer, path_lines, answer_line, text}
 use Rattle.top_call.specs.JobReport.{path_text, journal_entry, file_entry, report_view}
 use Rattle.top_call.specs.declared.report.JobReport.{JobReport}

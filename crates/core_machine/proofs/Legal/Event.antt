@@ -1,57 +1,10 @@
 -- The line that comes next, and when its event keeps its path legal: what the events of all
 -- operations share.
-use Rattle.fs_types.proofs.Common.{
-  ◌≡◌,
-  ℕ,
-  suc,
-  ◌+◌,
-  ◌≤◌,
-  Bool,
-  true,
-  false,
-  not,
-  cond,
-  List,
-  [],
-  ◌∷◌,
-  ◌++◌,
-  length,
-  Option,
-  Some,
-  None,
-  IfSome,
-  IsTrue,
-  true≢false,
-  add-one,
-  refl,
-  sym,
-  ap,
-  arith,
-  cond_both,
-  OnTrue_from,
-}
-use Rattle.fs_script.specs.Vocabulary.{
-  Answer,
-  Job,
-  op_at,
-  needs_open,
-  commits,
-  version_of,
-  done_at,
-  Answering,
-  is_enabled,
-  IsInReach,
-  AreTold,
-  AgreesWithOpen,
-  LineView,
-  line_view,
-  IsInTable,
-  commit_of,
-  IsLegalJournal,
-  AllFit,
-  ComesNext,
-  IsOfNoEarlierPhase,
-}
+use Rattle.fs_types.proofs.Common.{◌≡◌, ℕ, suc, ◌+◌, ◌≤◌, Bool, true, false, not, cond, List, [], ◌∷◌, ◌++◌, length, Option, Some, None}
+use Rattle.fs_types.proofs.Common.{IfSome, IsTrue, true≢false, add-one, refl, sym, ap, arith, cond_both, OnTrue_from}
+use Rattle.fs_script.specs.Vocabulary.{Answer, Job, op_at, needs_open, commits, version_of, done_at, Answering, is_enabled, IsInReach}
+use Rattle.fs_script.specs.Vocabulary.{AreTold, AgreesWithOpen, LineView, line_view, IsInTable, commit_of, IsLegalJournal, AllFit}
+use Rattle.fs_script.specs.Vocabulary.{ComesNext, IsOfNoEarlierPhase}
 use Rattle.core_machine.specs.Vocabulary.{OpLine, Op, Event, PathNow, if_open, path_now}
 use Rattle.fs_script.proofs.CallerLemmas.{slice_get-push_last, front-le-length_fit, IsInReach-now, IsInReach-made}
 use Rattle.fs_types.specs.declared.answer.Answer.TheVariants as answers

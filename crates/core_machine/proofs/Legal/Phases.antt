@@ -1,36 +1,7 @@
 -- Phases: when that of a line has begun, and that no line with an answer is of a later one.
-use Rattle.fs_types.proofs.Common.{
-  ◌≡◌,
-  ℕ,
-  ◌+◌,
-  ◌≤◌,
-  ◌<◌,
-  Bool,
-  true,
-  length,
-  Some,
-  IsSome,
-  is_some,
-  leb,
-  Contains,
-  true≢false,
-  sym,
-  ◌∙◌,
-  inl,
-  inr,
-  ◌||◌,
-  filter,
-  range_with_len,
-  or_cases,
-  lt-leb,
-  All-contains,
-  All-weaker,
-  filter_passes,
-  AllPass-from_list_all,
-  list_all-from_AllPass,
-  slice_get_within,
-  get_or_from_slice_get,
-}
+use Rattle.fs_types.proofs.Common.{◌≡◌, ℕ, ◌+◌, ◌≤◌, ◌<◌, Bool, true, length, Some, IsSome, is_some, leb, Contains, true≢false, sym, ◌∙◌}
+use Rattle.fs_types.proofs.Common.{inl, inr, ◌||◌, filter, range_with_len, or_cases, lt-leb, All-contains, All-weaker, filter_passes}
+use Rattle.fs_types.proofs.Common.{AllPass-from_list_all, list_all-from_AllPass, slice_get_within, get_or_from_slice_get}
 use Rattle.fs_script.specs.Vocabulary.{op_at, op_lines, phase}
 use Rattle.core_machine.specs.Vocabulary.{OpLine, Moment, printed, has_begun}
 use Rattle.fs_script.proofs.CallerLemmas.{some_of, op_at-within, passing-place}

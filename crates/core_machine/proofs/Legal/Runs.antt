@@ -1,47 +1,10 @@
 -- A run: its first moment is legal, and each of its steps keeps it so. So what it reports at its
 -- end is legal.
-use Rattle.fs_types.proofs.Common.{
-  ◌≡◌,
-  ℕ,
-  false,
-  List,
-  [],
-  ◌∷◌,
-  length,
-  None,
-  is_some,
-  slice_index_or,
-  bytes_eq,
-  le-ltb,
-  true≢false,
-  refl,
-  sym,
-  ap,
-  ◌∙◌,
-  subst,
-  arith,
-  AllByRecursion,
-  cond_both,
-  length-replicate,
-  get_or-replicate,
-}
+use Rattle.fs_types.proofs.Common.{◌≡◌, ℕ, false, List, [], ◌∷◌, length, None, is_some, slice_index_or, bytes_eq, le-ltb, true≢false, refl}
+use Rattle.fs_types.proofs.Common.{sym, ap, ◌∙◌, subst, arith, AllByRecursion, cond_both, length-replicate, get_or-replicate}
 use Rattle.fs_script.specs.Vocabulary.{answer_at, IsRising, Job, journal_of, IsLegal}
-use Rattle.core_machine.specs.Vocabulary.{
-  Moment,
-  fresh_client,
-  printed,
-  answering,
-  client_of,
-  journal,
-  ready,
-  IsFirst,
-  report_of,
-  Turn,
-  step,
-  HasClients,
-  IsLegalMoment,
-  Reaches,
-}
+use Rattle.core_machine.specs.Vocabulary.{Moment, fresh_client, printed, answering, client_of, journal, ready, IsFirst, report_of, Turn}
+use Rattle.core_machine.specs.Vocabulary.{step, HasClients, IsLegalMoment, Reaches}
 use Rattle.fs_script.proofs.CallerLemmas.{IsLegalSoFar-none}
 use Rattle.core_machine.proofs.Legal.Turns.{IsTurn-from_ready, step-is}
 use Rattle.core_machine.proofs.Legal.Steps.{step-legal}

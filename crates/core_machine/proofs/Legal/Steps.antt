@@ -1,72 +1,11 @@
 -- One event keeps a moment legal: each invariant after it, by whether it brings an answer.
-use Rattle.fs_types.proofs.Common.{
-  ◌≡◌,
-  ◌≢◌,
-  ℕ,
-  ◌<◌,
-  Bool,
-  true,
-  false,
-  cond,
-  List,
-  length,
-  map,
-  Option,
-  Some,
-  None,
-  IsSome,
-  is_some,
-  Contains,
-  refl,
-  sym,
-  ap,
-  ◌∙◌,
-  subst,
-  subst₂,
-  inl,
-  inr,
-  arith,
-  cases_eq,
-  get_or-set_same,
-  get_or-set_other,
-  length-set,
-}
-use Rattle.fs_script.specs.Vocabulary.{
-  Answer,
-  answer_at,
-  put_answer,
-  op_at,
-  phase,
-  Answering,
-  pending,
-  commit_of,
-  commit_by,
-  journal_of,
-  ArePaths,
-  AddsAnswer,
-  IsLegalSoFar,
-  IsNextAnswer,
-}
-use Rattle.core_machine.specs.Vocabulary.{
-  Doing,
-  Client,
-  Moment,
-  fresh_client,
-  printed,
-  answering,
-  client_of,
-  journal,
-  with_entry,
-  ready,
-  Event,
-  Turn,
-  event_at,
-  after_turn,
-  after_event,
-  step,
-  IsAnsweredUpTo,
-  IsLegalMoment,
-}
+use Rattle.fs_types.proofs.Common.{◌≡◌, ◌≢◌, ℕ, ◌<◌, Bool, true, false, cond, List, length, map, Option, Some, None, IsSome, is_some}
+use Rattle.fs_types.proofs.Common.{Contains, refl, sym, ap, ◌∙◌, subst, subst₂, inl, inr, arith, cases_eq, get_or-set_same}
+use Rattle.fs_types.proofs.Common.{get_or-set_other, length-set}
+use Rattle.fs_script.specs.Vocabulary.{Answer, answer_at, put_answer, op_at, phase, Answering, pending, commit_of, commit_by, journal_of}
+use Rattle.fs_script.specs.Vocabulary.{ArePaths, AddsAnswer, IsLegalSoFar, IsNextAnswer}
+use Rattle.core_machine.specs.Vocabulary.{Doing, Client, Moment, fresh_client, printed, answering, client_of, journal, with_entry, ready}
+use Rattle.core_machine.specs.Vocabulary.{Event, Turn, event_at, after_turn, after_event, step, IsAnsweredUpTo, IsLegalMoment}
 use Rattle.fs_types.proofs.CallerLemmas.{IsRisingFrom-put_answer}
 use Rattle.fs_script.proofs.CallerLemmas.{pending-agree, AddsAnswer-put, AgreeBefore-next, IsLegalSoFar-kept, IsLegalSoFar-commit}
 use Rattle.core_machine.proofs.Legal.Event.{now, IsLegalAnswer, IsLegalOutcome}

@@ -1,44 +1,8 @@
 -- The least of some numbers, and the phases of the lines that are done next.
-use Rattle.fs_types.proofs.Common.{
-  ◌≡◌,
-  ℕ,
-  zero,
-  suc,
-  ◌<◌,
-  ◌≤◌,
-  List,
-  [],
-  ◌∷◌,
-  length,
-  min,
-  fold,
-  get_or,
-  Option,
-  Some,
-  None,
-  slice_get,
-  Contains,
-  refl,
-  ap,
-  ◌∙◌,
-  inl,
-  inr,
-  arith,
-  IfNone,
-  IfSome,
-  AllByRecursion,
-  reduce,
-  filter_map,
-  cons_option,
-  option_map,
-  cases_lt,
-  none-some,
-  same_Some,
-  slice_get-get_or,
-  slice_get_within,
-  get_or_from_slice_get,
-  All-from_recursion,
-}
+use Rattle.fs_types.proofs.Common.{◌≡◌, ℕ, zero, suc, ◌<◌, ◌≤◌, List, [], ◌∷◌, length, min, fold, get_or, Option, Some, None, slice_get}
+use Rattle.fs_types.proofs.Common.{Contains, refl, ap, ◌∙◌, inl, inr, arith, IfNone, IfSome, AllByRecursion, reduce, filter_map}
+use Rattle.fs_types.proofs.Common.{cons_option, option_map, cases_lt, none-some, same_Some, slice_get-get_or, slice_get_within}
+use Rattle.fs_types.proofs.Common.{get_or_from_slice_get, All-from_recursion}
 use Rattle.fs_script.specs.Vocabulary.{Job, phase}
 use Rattle.core_machine.specs.Vocabulary.{Program, IsLeast, next_of, next_phases}
 

@@ -1,58 +1,11 @@
 -- What the programs that are kept say of the lines that come next, and of their phases.
-use Rattle.fs_types.proofs.Common.{
-  ◌≡◌,
-  ℕ,
-  ◌<◌,
-  ◌≤◌,
-  List,
-  [],
-  length,
-  map,
-  get_or,
-  Option,
-  Some,
-  None,
-  slice_get,
-  slice_index,
-  Contains,
-  refl,
-  sym,
-  ap,
-  ◌∙◌,
-  subst,
-  zero-add,
-  inl,
-  inr,
-  arith,
-  IfNone,
-  IfSome,
-  unwrap_or,
-  range_with_len,
-  option_map,
-  length-map,
-  All-contains,
-  length-map-range_with_len,
-  same_Some,
-  slice_get-map,
-  slice_get_within,
-  slice_get_cases,
-  slice_get_read,
-  get_or_from_slice_get,
-}
+use Rattle.fs_types.proofs.Common.{◌≡◌, ℕ, ◌<◌, ◌≤◌, List, [], length, map, get_or, Option, Some, None, slice_get, slice_index, Contains}
+use Rattle.fs_types.proofs.Common.{refl, sym, ap, ◌∙◌, subst, zero-add, inl, inr, arith, IfNone, IfSome, unwrap_or, range_with_len}
+use Rattle.fs_types.proofs.Common.{option_map, length-map, All-contains, length-map-range_with_len, same_Some, slice_get-map}
+use Rattle.fs_types.proofs.Common.{slice_get_within, slice_get_cases, slice_get_read, get_or_from_slice_get}
 use Rattle.fs_script.specs.Vocabulary.{Job, phase, program}
-use Rattle.core_machine.specs.Vocabulary.{
-  Program,
-  HasClients,
-  Places,
-  next_in,
-  going,
-  IsInPhase,
-  IsLeast,
-  next_of,
-  next_phases,
-  ArePrograms,
-  places_of,
-}
+use Rattle.core_machine.specs.Vocabulary.{Program, HasClients, Places, next_in, going, IsInPhase, IsLeast, next_of, next_phases}
+use Rattle.core_machine.specs.Vocabulary.{ArePrograms, places_of}
 use Rattle.fs_script.proofs.CallerLemmas.{slice_get-range, program-op}
 use Rattle.core_machine.proofs.Programs.LeastPhase.{next_phases-at, next_phases-from}
 use Rattle.core_machine.proofs.Programs.Going.{Goes, none-goes, IsInPhase-from_some}

@@ -1,44 +1,8 @@
 -- What an answer to the line that comes next changes of what its client knows, as seen from the script's end.
-use Rattle.fs_types.proofs.Common.{
-  ◌≡◌,
-  ℕ,
-  zero,
-  suc,
-  ◌≤◌,
-  List,
-  [],
-  ◌∷◌,
-  Option,
-  Some,
-  None,
-  IsSome,
-  is_some,
-  true≢false,
-  refl,
-  sym,
-  ap,
-  ◌∙◌,
-  inl,
-  inr,
-  arith,
-  cases_lt,
-  AllByRecursion,
-}
-use Rattle.fs_script.specs.Vocabulary.{
-  Answer,
-  Job,
-  own_at,
-  rank_at,
-  bytes_of,
-  Answering,
-  one_more,
-  over_answers,
-  state,
-  AddsAnswer,
-  ComesNext,
-  AgreeBefore,
-  SamePending,
-}
+use Rattle.fs_types.proofs.Common.{◌≡◌, ℕ, zero, suc, ◌≤◌, List, [], ◌∷◌, Option, Some, None, IsSome, is_some, true≢false, refl, sym, ap}
+use Rattle.fs_types.proofs.Common.{◌∙◌, inl, inr, arith, cases_lt, AllByRecursion}
+use Rattle.fs_script.specs.Vocabulary.{Answer, Job, own_at, rank_at, bytes_of, Answering, one_more, over_answers, state, AddsAnswer}
+use Rattle.fs_script.specs.Vocabulary.{ComesNext, AgreeBefore, SamePending}
 use Rattle.core_machine.specs.Vocabulary.{Op}
 use Rattle.fs_script.proofs.CallerLemmas.{state_in-agree, pending_at-answered, some_of}
 

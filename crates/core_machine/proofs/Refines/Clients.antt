@@ -1,34 +1,9 @@
 -- A client's part of a path after an event: of the client whose line it is, and of every other.
 use Rattle.fs_types.proofs.Common.{◌≡◌, ℕ, suc, ◌≤◌, ◌<◌, Bool, List, length, Some, None, ◌||◌, sym, ap, ◌∙◌, subst, arith}
-use Rattle.fs_script.specs.Vocabulary.{
-  Answer,
-  Job,
-  own_at,
-  version_of,
-  Answering,
-  after_answer,
-  one_more,
-  over_answers,
-  state,
-  opens,
-  at_least,
-  AddsAnswer,
-}
-use Rattle.core_machine.specs.Vocabulary.{
-  Op,
-  OpLine,
-  OwnedPath,
-  ClientPath,
-  known_of,
-  AreSound,
-  known_from,
-  Follows,
-  kept_event,
-  Knows,
-  StandsForOwner,
-  StandsForClient,
-  end_of,
-}
+use Rattle.fs_script.specs.Vocabulary.{Answer, Job, own_at, version_of, Answering, after_answer, one_more, over_answers, state, opens}
+use Rattle.fs_script.specs.Vocabulary.{at_least, AddsAnswer}
+use Rattle.core_machine.specs.Vocabulary.{Op, OpLine, OwnedPath, ClientPath, known_of, AreSound, known_from, Follows, kept_event, Knows}
+use Rattle.core_machine.specs.Vocabulary.{StandsForOwner, StandsForClient, end_of}
 use Rattle.fs_script.proofs.CallerLemmas.{over_answers-agree, AgreeBefore-next}
 use Rattle.core_machine.proofs.Refines.Answers.{AgreeBefore-elsewhere, IsOpenFrom, IsOpenFrom-answered, over_answers-until}
 use Rattle.core_machine.proofs.Refines.Owners.{IsNewAnswer, grown, length-grown, state-grown, told-within}

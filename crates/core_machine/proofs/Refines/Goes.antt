@@ -1,54 +1,10 @@
 -- A client that goes: it is one of the job's, and its next line is of the run's phase. Its step brings the run nearer to its end.
-use Rattle.fs_types.proofs.Common.{
-  ◌≡◌,
-  ℕ,
-  zero,
-  suc,
-  ◌+◌,
-  ◌-◌,
-  ◌≤◌,
-  ◌<◌,
-  Bool,
-  true,
-  false,
-  List,
-  length,
-  Some,
-  Contains,
-  slice_index,
-  slice_get,
-  sum_by,
-  refl,
-  sym,
-  ap,
-  ◌∙◌,
-  subst,
-  inl,
-  inr,
-  arith,
-  range_with_len,
-  cases_eq,
-  get_or-set_same,
-  get_or-set_other,
-  sum_by-cons,
-  sum_by-le-sum_by,
-  same_Some,
-  slice_get_within,
-}
+use Rattle.fs_types.proofs.Common.{◌≡◌, ℕ, zero, suc, ◌+◌, ◌-◌, ◌≤◌, ◌<◌, Bool, true, false, List, length, Some, Contains, slice_index}
+use Rattle.fs_types.proofs.Common.{slice_get, sum_by, refl, sym, ap, ◌∙◌, subst, inl, inr, arith, range_with_len, cases_eq, get_or-set_same}
+use Rattle.fs_types.proofs.Common.{get_or-set_other, sum_by-cons, sum_by-le-sum_by, same_Some, slice_get_within}
 use Rattle.fs_script.specs.Vocabulary.{Given, Job, phase, program}
-use Rattle.core_machine.specs.Vocabulary.{
-  PathState,
-  Places,
-  IsInPhase,
-  going,
-  next_in,
-  events_left,
-  ready,
-  moment_of,
-  after_line,
-  Holds,
-  HasClients,
-}
+use Rattle.core_machine.specs.Vocabulary.{PathState, Places, IsInPhase, going, next_in, events_left, ready, moment_of, after_line, Holds}
+use Rattle.core_machine.specs.Vocabulary.{HasClients}
 use Rattle.core_machine.proofs.Refines.Moments.{client_of-places}
 use Rattle.core_machine.proofs.Programs.Going.{Goes-from_Contains}
 use Rattle.core_machine.proofs.Programs.NextLines.{next_in-within}

@@ -1,44 +1,7 @@
 -- The journals that are kept, as one path's state is changed.
-use Rattle.fs_types.proofs.Common.{
-  ◌≡◌,
-  ℕ,
-  zero,
-  suc,
-  ◌<◌,
-  Bool,
-  true,
-  false,
-  cond,
-  List,
-  [],
-  ◌∷◌,
-  ◌++◌,
-  length,
-  set,
-  get_or,
-  map,
-  Some,
-  refl,
-  sym,
-  ap,
-  subst,
-  ◌∙◌,
-  arith,
-  zip,
-  slice_get,
-  AllByRecursion,
-  bytes_eq,
-  nat_cmp,
-  is_lt,
-  slice_cmp,
-  option_map,
-  map-set,
-  set-get_or,
-  same_Some,
-  slice_get-get_or,
-  slice_get-map,
-  get_or_from_slice_get,
-}
+use Rattle.fs_types.proofs.Common.{◌≡◌, ℕ, zero, suc, ◌<◌, Bool, true, false, cond, List, [], ◌∷◌, ◌++◌, length, set, get_or, map, Some}
+use Rattle.fs_types.proofs.Common.{refl, sym, ap, subst, ◌∙◌, arith, zip, slice_get, AllByRecursion, bytes_eq, nat_cmp, is_lt, slice_cmp}
+use Rattle.fs_types.proofs.Common.{option_map, map-set, set-get_or, same_Some, slice_get-get_or, slice_get-map, get_or_from_slice_get}
 use Rattle.fs_script.specs.Vocabulary.{AreRising}
 use Rattle.core_machine.specs.Vocabulary.{PathState, with_entry, journals_of}
 use Rattle.core_machine.proofs.Paths.{not_among, same_bytes, other_bytes}

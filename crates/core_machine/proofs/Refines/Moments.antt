@@ -2,32 +2,9 @@
 use Rattle.std.proofs.Math.ListN.{get_or-map}
 use Rattle.fs_types.proofs.Common.{◌≡◌, ℕ, ◌+◌, false, List, set, get_or, map, Some, slice_index, refl, sym, ap, ◌∙◌, slice_get, map-set}
 use Rattle.fs_script.specs.Vocabulary.{Answer, Given, put_answer, Job, program, journal_of}
-use Rattle.core_machine.specs.Vocabulary.{
-  PathState,
-  nothing,
-  Client,
-  Moment,
-  fresh_client,
-  client_of,
-  next_line,
-  Event,
-  PathNow,
-  event_of,
-  event_at,
-  with_answer,
-  after_turn,
-  after_event,
-  step,
-  step_at,
-  step_line,
-  path_now,
-  kept_event,
-  Places,
-  client_at,
-  journals_of,
-  moment_of,
-  after_line,
-}
+use Rattle.core_machine.specs.Vocabulary.{PathState, nothing, Client, Moment, fresh_client, client_of, next_line, Event, PathNow, event_of}
+use Rattle.core_machine.specs.Vocabulary.{event_at, with_answer, after_turn, after_event, step, step_at, step_line, path_now, kept_event}
+use Rattle.core_machine.specs.Vocabulary.{Places, client_at, journals_of, moment_of, after_line}
 use Rattle.core_machine.proofs.Paths.{journal_of-zip}
 use Rattle.core_machine.proofs.Refines.Journals.{slice_get-map_some, journal_kept, journals_of-set}
 use Rattle.core_machine.proofs.Refines.Now.{kept_now-is}

@@ -1,78 +1,11 @@
 -- One event of the machine is one line answered by what the core keeps.
-use Rattle.fs_types.proofs.Common.{
-  ◌≡◌,
-  ◌≢◌,
-  ℕ,
-  ◌+◌,
-  ◌<◌,
-  ◌≤◌,
-  Bool,
-  false,
-  cond,
-  List,
-  length,
-  set,
-  slice_index,
-  Some,
-  None,
-  IsSome,
-  is_some,
-  refl,
-  sym,
-  ap,
-  subst,
-  ◌∙◌,
-  arith,
-  inl,
-  inr,
-  nat_eq,
-  eq-eqb,
-  ◌&&◌,
-  slice_get,
-  bytes_eq,
-  cases_eq,
-  ne_eqb,
-  length-set,
-  get_or-set_same,
-  get_or-set_other,
-  same_Some,
-  slice_get_within,
-  bytes_eq-Decides,
-}
-use Rattle.fs_script.specs.Vocabulary.{
-  Answer,
-  Given,
-  answer_at,
-  put_answer,
-  Job,
-  op_at,
-  own_at,
-  own_op,
-  rank_at,
-  rank_in,
-  phase,
-  program,
-  Answering,
-  pending,
-}
-use Rattle.core_machine.specs.Vocabulary.{
-  OpLine,
-  Op,
-  PathState,
-  ClientPath,
-  AreSound,
-  pending_lines,
-  Follows,
-  kept_event,
-  Places,
-  IsAnsweredUpTo,
-  after_line,
-  Holds,
-  Stands,
-  StandsForOwner,
-  StandsForClient,
-  end_of,
-}
+use Rattle.fs_types.proofs.Common.{◌≡◌, ◌≢◌, ℕ, ◌+◌, ◌<◌, ◌≤◌, Bool, false, cond, List, length, set, slice_index, Some, None, IsSome}
+use Rattle.fs_types.proofs.Common.{is_some, refl, sym, ap, subst, ◌∙◌, arith, inl, inr, nat_eq, eq-eqb, ◌&&◌, slice_get, bytes_eq, cases_eq}
+use Rattle.fs_types.proofs.Common.{ne_eqb, length-set, get_or-set_same, get_or-set_other, same_Some, slice_get_within, bytes_eq-Decides}
+use Rattle.fs_script.specs.Vocabulary.{Answer, Given, answer_at, put_answer, Job, op_at, own_at, own_op, rank_at, rank_in, phase, program}
+use Rattle.fs_script.specs.Vocabulary.{Answering, pending}
+use Rattle.core_machine.specs.Vocabulary.{OpLine, Op, PathState, ClientPath, AreSound, pending_lines, Follows, kept_event, Places}
+use Rattle.core_machine.specs.Vocabulary.{IsAnsweredUpTo, after_line, Holds, Stands, StandsForOwner, StandsForClient, end_of}
 use Rattle.fs_script.proofs.CallerLemmas.{AddsAnswer-put, own_op-rank, op_at-within, program-op}
 use Rattle.core_machine.proofs.Paths.{place_unique, other_bytes}
 use Rattle.core_machine.proofs.Places.{StandsNext, comes_next, upto-own, upto-other}

@@ -1,64 +1,10 @@
 -- The end of a phase: all clients are told of every path, and all that is kept goes on holding in the next phase.
-use Rattle.fs_types.proofs.Common.{
-  ◌≡◌,
-  ℕ,
-  zero,
-  suc,
-  ◌<◌,
-  Bool,
-  false,
-  cond,
-  List,
-  [],
-  ◌∷◌,
-  ◌++◌,
-  length,
-  map,
-  take,
-  drop,
-  set,
-  get_or,
-  Option,
-  Some,
-  None,
-  IsSome,
-  is_some,
-  Vec,
-  nat_lt,
-  count_by,
-  slice_index,
-  refl,
-  sym,
-  ap,
-  ◌∙◌,
-  subst,
-  arith,
-  zip,
-  slice_get,
-  AllByRecursion,
-  lt-ltb,
-  length-map,
-  sum_by-cons,
-  map-map,
-  same_Some,
-}
+use Rattle.fs_types.proofs.Common.{◌≡◌, ℕ, zero, suc, ◌<◌, Bool, false, cond, List, [], ◌∷◌, ◌++◌, length, map, take, drop, set, get_or}
+use Rattle.fs_types.proofs.Common.{Option, Some, None, IsSome, is_some, Vec, nat_lt, count_by, slice_index, refl, sym, ap, ◌∙◌, subst}
+use Rattle.fs_types.proofs.Common.{arith, zip, slice_get, AllByRecursion, lt-ltb, length-map, sum_by-cons, map-map, same_Some}
 use Rattle.fs_script.specs.Vocabulary.{Given, answer_at, Job, phase, Answering}
-use Rattle.core_machine.specs.Vocabulary.{
-  Extent,
-  OwnedPath,
-  PathState,
-  known_of,
-  file_of,
-  board_now,
-  with_board,
-  Places,
-  IsAnsweredUpTo,
-  client_at,
-  moment_of,
-  Holds,
-  Stands,
-  StandsForOwner,
-}
+use Rattle.core_machine.specs.Vocabulary.{Extent, OwnedPath, PathState, known_of, file_of, board_now, with_board, Places, IsAnsweredUpTo}
+use Rattle.core_machine.specs.Vocabulary.{client_at, moment_of, Holds, Stands, StandsForOwner}
 use Rattle.core_machine.proofs.Refines.Journals.{journal_kept}
 
 -- lines of phases before a later one are all of the lines

@@ -1,24 +1,5 @@
-use Rattle.fs_types.proofs.Common.{
-  ◌≡◌,
-  ℕ,
-  zero,
-  suc,
-  ◌<◌,
-  false,
-  List,
-  [],
-  ◌∷◌,
-  length,
-  Some,
-  slice_get,
-  set,
-  is_some,
-  refl,
-  sym,
-  ap,
-  subst,
-  arith,
-}
+use Rattle.fs_types.proofs.Common.{◌≡◌, ℕ, zero, suc, ◌<◌, false, List, [], ◌∷◌, length, Some, slice_get, set, is_some, refl, sym, ap}
+use Rattle.fs_types.proofs.Common.{subst, arith}
 use Rattle.fs_script.specs.Vocabulary.{Answer, Given, put_answer}
 use Rattle.core_machine.specs.Vocabulary.{PathState, FollowsFor, IsSoundFor, moment_of, after_line, Holds, step}
 use Rattle.fs_script.proofs.CallerLemmas.{op_at-within, program-op}

@@ -1,21 +1,5 @@
-use Rattle.fs_types.proofs.Common.{
-  ◌≡◌,
-  ◌∙◌,
-  [],
-  min,
-  sym,
-  subst,
-  rules,
-  tests,
-  IfNone,
-  IfSome,
-  reduce,
-  option_map,
-  YieldsList-from_slice,
-  option_map_id,
-  YieldsList-from_filter_map,
-  min_from_yields_List,
-}
+use Rattle.fs_types.proofs.Common.{◌≡◌, ◌∙◌, [], min, sym, subst, rules, tests, IfNone, IfSome, reduce, option_map, YieldsList-from_slice}
+use Rattle.fs_types.proofs.Common.{option_map_id, YieldsList-from_filter_map, min_from_yields_List}
 use Rattle.fs_script.specs.Vocabulary.{phase}
 use Rattle.core_machine.specs.Vocabulary.{Program, IsLeast, next_of, next_phases}
 use Rattle.core_machine.proofs.Programs.LeastPhase.{none_least, IsLeast-from_reduce}

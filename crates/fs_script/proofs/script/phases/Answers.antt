@@ -1,28 +1,5 @@
-use Rattle.fs_types.proofs.Common.{
-  ◌≡◌,
-  ℕ,
-  ◌+◌,
-  ◌<◌,
-  ◌∙◌,
-  Bool,
-  true,
-  false,
-  List,
-  length,
-  cond,
-  take,
-  count_by,
-  get_or,
-  sym,
-  ap,
-  refl,
-  arith,
-  from_bool,
-  length-take,
-  fold_more,
-  count_by-le-length,
-  map-range_with_len_more,
-}
+use Rattle.fs_types.proofs.Common.{◌≡◌, ℕ, ◌+◌, ◌<◌, ◌∙◌, Bool, true, false, List, length, cond, take, count_by, get_or, sym, ap, refl}
+use Rattle.fs_types.proofs.Common.{arith, from_bool, length-take, fold_more, count_by-le-length, map-range_with_len_more}
 use Rattle.fs_script.specs.Vocabulary.{Line, is_barrier}
 use Rattle.fs_script.proofs.script.phases.Goals.{After-from-phase}
 use Rattle.fs_script.proofs.script.phases.Goals as goal

@@ -1,11 +1,6 @@
 use Rattle.fs_types.proofs.Common.{arith}
-use Rattle.fs_types.proofs.AnswerOrder.{
-  answer_at-put_answer,
-  IsRisingFrom-put_answer,
-  IsRising-answers_given,
-  put_answer-above,
-  same_from_answers,
-}
+use Rattle.fs_types.proofs.AnswerOrder.{answer_at-put_answer, IsRisingFrom-put_answer, IsRising-answers_given, put_answer-above}
+use Rattle.fs_types.proofs.AnswerOrder.{same_from_answers}
 use Rattle.fs_types.proofs.laws.answers_are_a_table.Goals as goal
 
 pub returns-clause-one : goal.returns-clause-one

@@ -1,23 +1,5 @@
-use Rattle.fs_types.proofs.Common.{
-  ◌≡◌,
-  ◌-◌,
-  Bool,
-  true,
-  false,
-  ◌&&◌,
-  length,
-  take,
-  drop,
-  List,
-  ℕ,
-  nat_le,
-  nat_eq,
-  arith,
-  nat_tests,
-  common_steps,
-  list_all,
-  starts_with,
-}
+use Rattle.fs_types.proofs.Common.{◌≡◌, ◌-◌, Bool, true, false, ◌&&◌, length, take, drop, List, ℕ, nat_le, nat_eq, arith, nat_tests}
+use Rattle.fs_types.proofs.Common.{common_steps, list_all, starts_with}
 use Rattle.fs_types.specs.PathText.{is_component, between_slashes, mount_point}
 use Rattle.fs_types.proofs.path.is_path_text.Goals.{then-b-le-LONGEST_PATH, else-b-le-LONGEST_PATH}
 use Rattle.fs_types.proofs.path.is_path_text.Goals as goal

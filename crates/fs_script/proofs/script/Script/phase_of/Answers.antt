@@ -1,21 +1,5 @@
-use Rattle.fs_types.proofs.Common.{
-  ◌≡◌,
-  ℕ,
-  ◌+◌,
-  ◌-◌,
-  ◌∙◌,
-  List,
-  length,
-  min,
-  take,
-  count_by,
-  get_or,
-  ap,
-  arith,
-  take_min,
-  get_or-map-range_with_len,
-  length-map-range_with_len,
-}
+use Rattle.fs_types.proofs.Common.{◌≡◌, ℕ, ◌+◌, ◌-◌, ◌∙◌, List, length, min, take, count_by, get_or, ap, arith, take_min}
+use Rattle.fs_types.proofs.Common.{get_or-map-range_with_len, length-map-range_with_len}
 use Rattle.fs_script.specs.Vocabulary.{Line, Job, is_barrier, phase}
 use Rattle.fs_script.proofs.script.Script.phase_of.Goals as goal
 
