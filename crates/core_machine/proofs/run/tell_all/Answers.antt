@@ -3,9 +3,6 @@ use Rattle.core_machine.specs.Vocabulary.{with_board}
 use Rattle.core_machine.proofs.Refines.Told.{tell-next}
 use Rattle.core_machine.proofs.run.tell_all.Goals as goal
 
-pub loop-state-init : goal.loop-state-init
-loop-state-init c = refl
-
 pub loop-state-preserved : goal.loop-state-preserved
 loop-state-preserved c =
     let xs = c.args.states.now in
@@ -16,10 +13,3 @@ loop-state-preserved c =
     ∙ ap (λ ys. set ys i (with_board c.state-item.result)) so_far
     ∙ tell-next xs i c.state-item.result c.loop-state-test.true here
     ∙ ap (λ k. map with_board (take k xs) ++ drop k xs) (sym (add-one i))
-
-pub returns : goal.returns
-returns c =
-    let xs = c.args.states.now in
-    let i = c.loop-state.state-index in
-    c.loop-state.invariant ∙ ap (λ ys. map with_board ys ++ drop i xs) (take_all i xs c.loop-state-test.false)
-    ∙ ap (λ ys. map with_board xs ++ ys) (drop_all i xs c.loop-state-test.false) ∙ append-nil (map with_board xs)
