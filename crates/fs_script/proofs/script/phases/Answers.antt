@@ -22,11 +22,6 @@ next-phase c =
     let more = count-more c.args.lines.now c.loop-line.line-index c.line-item.result (omega arith) c.line-item.is in
     omega (arith, more, c.loop-line.invariant.phase, c.from-phase.ensures, ap from_bool c.is_barrier.ensures)
 
-pub overflow_add-phase : goal.overflow_add-phase
-overflow_add-phase c =
-    let lines = take (c.loop-line.line-index + 1) c.args.lines.now in
-    omega (arith, next-phase c, count_by-le-length is_barrier lines, length-take (c.loop-line.line-index + 1) c.args.lines.now)
-
 pub loop-line-preserved : goal.loop-line-preserved
 loop-line-preserved c =
     let i = c.loop-line.line-index in

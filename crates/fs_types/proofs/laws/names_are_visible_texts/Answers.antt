@@ -3,9 +3,3 @@ use Rattle.fs_types.proofs.laws.names_are_visible_texts.Goals as goal
 
 pub returns-clause-path : goal.returns-clause-path
 returns-clause-path c = name_from_path
-
-pub returns-clause-bounds : goal.returns-clause-bounds
-returns-clause-bounds c = name_bounds
-
-pub returns-clause-visible : goal.returns-clause-visible
-returns-clause-visible c = name_is_visible

@@ -6,6 +6,3 @@ returns-clause-mounted c = mounted_from_path
 
 pub returns-clause-path : goal.returns-clause-path
 returns-clause-path c = path_from_mounted
-
-pub returns-clause-bounds : goal.returns-clause-bounds
-returns-clause-bounds c = path_bounds
