@@ -19,13 +19,13 @@ pub use Rattle.core_machine.specs.Kept.{with_board, kept_now, later_of}
 pub use Rattle.core_machine.specs.LegalSoFar.{HasClients, IsLegalMoment, Reaches, IsAnsweredUpTo}
 pub use Rattle.core_machine.specs.Moment.{Client, Moment, fresh_client, ready, printed, answering, client_of, journal, IsFirst, has_begun}
 pub use Rattle.core_machine.specs.Moment.{may_come, next_line, with_entry, file_now, events_left}
-pub use Rattle.core_machine.specs.MomentKept.{client_at, moment_of, journals_of, after_line}
+pub use Rattle.core_machine.specs.MomentKept.{client_at, moment_of, journals_of}
 pub use Rattle.core_machine.specs.MomentReport.{report_of}
 pub use Rattle.core_machine.specs.PathTable.{texts, paths_of, with_op, with_path, with_path_of}
 pub use Rattle.core_machine.specs.Program.{IsLeast, next_of, next_phases, ArePrograms, places_of, IsKept, with_program_line}
 pub use Rattle.core_machine.specs.Standing.{Holds, Stands, StandsForOwner, StandsForClient, end_of}
 pub use Rattle.core_machine.specs.Step.{Turn, step, path_now, after_event, event_at, step_line, step_at, after_turn, event_of, with_answer}
-pub use Rattle.core_machine.specs.Turns.{Places, next_in, going, IsInPhase, is_of_phase}
+pub use Rattle.core_machine.specs.Turns.{Places, next_in, going, IsInPhase, is_of_phase, after_line}
 pub use Rattle.core_machine.specs.declared.extent.Extent.{Extent}
 pub use Rattle.core_machine.specs.declared.noted.Noted.{Noted}
 pub use Rattle.core_machine.specs.declared.path_state.ClientPath.{ClientPath}

@@ -9,7 +9,8 @@ ghost use Rattle.core_machine.specs.Step.{step};
 ghost use Rattle.core_machine.specs.Kept.{IsFreshPath, with_board};
 ghost use Rattle.core_machine.specs.Follows.{FollowsFor, IsSoundFor};
 ghost use Rattle.core_machine.specs.Turns.{going};
-ghost use Rattle.core_machine.specs.MomentKept.{after_line, journals_of, moment_of};
+ghost use Rattle.core_machine.specs.MomentKept.{journals_of, moment_of};
+ghost use Rattle.core_machine.specs.Turns.{after_line};
 ghost use Rattle.core_machine.specs.Standing.{Holds};
 ghost use Rattle.core_machine.specs.Core.{IsRun, moment};
 

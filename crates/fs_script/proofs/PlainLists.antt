@@ -31,6 +31,10 @@ module _ {X : Type 0} (P : X → Type 0) where
   pub AllByRecursion-from_get : (xs : List X) → ((k : ℕ) (x : X) → slice_get xs k ≡ Some x → P x) → AllByRecursion P xs
   AllByRecursion-from_get xs each = recursion_from_All P xs (λ k d below. each k (get_or xs k d) (slice_get-get_or xs k d below))
 
+  pub AllByRecursion-weaker : (Q : X → Type 0) (xs : List X) → ((x : X) → P x → Q x) → AllByRecursion P xs → AllByRecursion Q xs
+  AllByRecursion-weaker Q [] each all = tt
+  AllByRecursion-weaker Q (x ∷ xs) each all = (each x all.0, AllByRecursion-weaker Q xs each all.1)
+
   -- of the first elements
   pub AllByRecursion-take : (n : ℕ) (xs : List X) → AllByRecursion P xs → AllByRecursion P (take n xs)
   AllByRecursion-take n xs all = recursion_from_All P (take n xs) (All-take P n xs (All-from_recursion P xs all))

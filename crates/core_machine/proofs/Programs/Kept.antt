@@ -4,12 +4,12 @@ use Rattle.fs_types.proofs.Common.{vec_capacity, Some, IsSome, is_some, slice_ge
 use Rattle.fs_types.proofs.Common.{inr, arith, ◌==◌, slice_set, map-set_same, cases_eq, length-map, map-set, get_or-set_same}
 use Rattle.fs_types.proofs.Common.{get_or-set_other, same_Some, slice_get_read, slice_get_within}
 use Rattle.fs_script.specs.Vocabulary.{phase, program}
-use Rattle.core_machine.specs.Vocabulary.{Program, Inside, Places, next_in, is_of_phase, going, IsInPhase, IsLeast, next_of, next_phases}
+use Rattle.core_machine.specs.Vocabulary.{Program, Inside, Places, next_in, is_of_phase, going, IsInPhase, IsLeast, next_of, next_phases, after_line}
 use Rattle.core_machine.specs.Vocabulary.{ArePrograms, places_of, IsKept}
 use Rattle.core_machine.proofs.Programs.Going.{Goes, Goes-from_Contains, none-goes, IsInPhase-from_some}
 use Rattle.core_machine.proofs.Programs.NextLines.{next_in-within, length-programs, lines-at, place-at, next_of-read, Goes-least}
 use Rattle.core_machine.proofs.Programs.NextLines.{going-least, IsInPhase-least, IsInPhase-none}
-use Rattle.core_machine.proofs.Programs.Advanced.{advanced, next_in-own, none_earlier-advanced, going-stays, going-leaves}
+use Rattle.core_machine.proofs.Programs.Advanced.{next_in-own, none_earlier-advanced, going-stays, going-leaves}
 
 -- ---- a client that is ready
 
@@ -93,7 +93,7 @@ module _ {t : Inside} {r : ℕ} {w : Places} {i : ℕ} {p q : Program} (advances
       let lines = λ (o : Program). o.lines.items in
       map-set_same lines t.programs.items r q p (lines-same ∙ ap lines advances.read) ∙ advances.ready.kept.programs
 
-  new-is : places_of t.script.now new t.phase ≡ advanced old r
+  new-is : places_of t.script.now new t.phase ≡ after_line old r
   new-is = ap (λ (xs : List ℕ). record { job = t.script.now; places = xs; phase = t.phase }) places-set
 
   within-new : (j : ℕ) → slice_index (map (λ p. p.place) new) j ≤ length (program t.script.now j)
@@ -109,7 +109,7 @@ module _ {t : Inside} {r : ℕ} {w : Places} {i : ℕ} {p q : Program} (advances
         omega (arith, advances.ready.kept.within j)
   ]
 
-  next-new : next_in (advanced old r) r ≡ next_of q
+  next-new : next_in (after_line old r) r ≡ next_of q
   next-new =
       let lines = lines-same ∙ lines-at t.script.now t.programs.items advances.ready.kept.programs r p at in
       next_in-own old r within ∙ ap (slice_get (program t.script.now r)) (sym place-new)

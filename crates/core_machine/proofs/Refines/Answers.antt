@@ -1,10 +1,10 @@
 -- What an answer to the line that comes next changes of what its client knows, as seen from the script's end.
-use Rattle.fs_types.proofs.Common.{◌≡◌, ℕ, zero, suc, ◌≤◌, List, [], ◌∷◌, Option, Some, None, IsSome, is_some, true≢false, refl, sym, ap}
+use Rattle.fs_types.proofs.Common.{◌≡◌, ℕ, zero, suc, ◌≤◌, List, Option, Some, None, IsSome, is_some, true≢false, refl, sym, ap}
 use Rattle.fs_types.proofs.Common.{◌∙◌, inl, inr, arith, cases_lt, AllByRecursion}
-use Rattle.fs_script.specs.Vocabulary.{Answer, Job, own_at, rank_at, bytes_of, Answering, one_more, over_answers, state, AddsAnswer}
+use Rattle.fs_script.specs.Vocabulary.{Answer, Job, own_at, rank_at, bytes_of, Answering, one_more, over_answers, state, AddsAnswer, pending_at}
 use Rattle.fs_script.specs.Vocabulary.{ComesNext, AgreeBefore, SamePending}
 use Rattle.core_machine.specs.Vocabulary.{Op}
-use Rattle.fs_script.proofs.CallerLemmas.{state_in-agree, pending_at-answered, some_of}
+use Rattle.fs_script.proofs.CallerLemmas.{state_in-agree, pending_at-answered, some_of, AllByRecursion-weaker}
 
 -- ---- a client and a path that the line is not of
 
@@ -48,10 +48,10 @@ IsOpenFrom-answered s r p A B n a adds from k later own = adds.others k (λ e. o
 
 -- nothing pending at lines that were answered changes
 pub SamePending-answered : (s : Job) (A B : Answering) (J : List ℕ) (n : ℕ) (a : Answer) → AddsAnswer A n a B → ComesNext s A n → AllByRecursion (λ m. IsSome (A m)) J → SamePending s A B J
-SamePending-answered s A B [] n a adds next all = tt
-SamePending-answered s A B (m ∷ J) n a adds next all =
-    let given = some_of (A m) all.0 in
-    (pending_at-answered s A B m n a given.0 adds next given.1, SamePending-answered s A B J n a adds next all.1)
+SamePending-answered s A B J n a adds next =
+    AllByRecursion-weaker (λ m. IsSome (A m)) (λ m. pending_at s A m ≡ pending_at s B m) J (λ m answered.
+    let given = some_of (A m) answered in
+    pending_at-answered s A B m n a given.0 adds next given.1)
 
 -- the file at a version of a journal whose lines were all answered
 pub state-answered : (s : Job) (A B : Answering) (J : List ℕ) (n v : ℕ) (a : Answer) → AddsAnswer A n a B → ComesNext s A n → AllByRecursion (λ m. IsSome (A m)) J → state s A J v ≡ state s B J v

@@ -1,7 +1,7 @@
 -- The journals that are kept, as one path's state is changed.
-use Rattle.fs_types.proofs.Common.{◌≡◌, ℕ, zero, suc, ◌<◌, Bool, true, false, cond, List, [], ◌∷◌, ◌++◌, length, set, get_or, map, Some}
+use Rattle.fs_types.proofs.Common.{◌≡◌, ℕ, zero, suc, ◌<◌, Bool, true, false, cond, List, [], ◌∷◌, ◌++◌, length, set, map, Some}
 use Rattle.fs_types.proofs.Common.{refl, sym, ap, subst, ◌∙◌, arith, zip, slice_get, AllByRecursion, bytes_eq, nat_cmp, is_lt, slice_cmp}
-use Rattle.fs_types.proofs.Common.{option_map, map-set, set-get_or, same_Some, slice_get-get_or, slice_get-map, get_or_from_slice_get}
+use Rattle.fs_types.proofs.Common.{option_map, map-set, set-get_or, same_Some, slice_get-map, get_or_from_slice_get}
 use Rattle.fs_script.specs.Vocabulary.{AreRising}
 use Rattle.core_machine.specs.Vocabulary.{PathState, with_entry, journals_of}
 use Rattle.core_machine.proofs.Paths.{not_among, same_bytes, other_bytes}
@@ -27,10 +27,6 @@ module _ {X : Type 0} where
 
   pub slice_get-map_some : {Y : Type 0} (f : X → Y) (xs : List X) (i : ℕ) (x : X) → slice_get xs i ≡ Some x → slice_get (map f xs) i ≡ Some (f x)
   slice_get-map_some f xs i x is = slice_get-map f xs i ∙ ap (option_map f) is
-
--- what was read at a place stands there
-pub slice_get-read : {X : Type 0} (xs : List X) (i : ℕ) (x : X) → i < length xs → x ≡ get_or xs i x → slice_get xs i ≡ Some x
-slice_get-read xs i x lt is = slice_get-get_or xs i x lt ∙ ap Some (sym is)
 
 -- ---- journals beside their paths
 

@@ -6,7 +6,7 @@ use Rattle.fs_script.specs.Vocabulary.{Answer, File, Job, op_at, phase, bytes_of
 use Rattle.fs_script.specs.Vocabulary.{effect_in, state, AddsAnswer, ComesNext}
 use Rattle.core_machine.specs.Vocabulary.{OpLine, OwnedPath, ClientPath, known_of, AreSound, file_of, known_from, pending_lines, Follows}
 use Rattle.core_machine.specs.Vocabulary.{kept_event, StandsForOwner}
-use Rattle.fs_script.proofs.CallerLemmas.{state_in-push, state_in-push_last, pending_at-next, AllByRecursion-push}
+use Rattle.fs_script.proofs.CallerLemmas.{state_in-push, state_in-push_last, pending_at-next, AllByRecursion-weaker, AllByRecursion-push}
 use Rattle.core_machine.proofs.Refines.Answers.{state-answered}
 
 -- line n, the operation o of the run's phase, comes next and is answered a
@@ -25,8 +25,7 @@ still-answered A B n m a adds given = elim (cases_eq m n) [
 ]
 
 all-answered : (A B : Answering) (n : ℕ) (a : Answer) (J : List ℕ) → AddsAnswer A n a B → AllByRecursion (λ m. IsSome (A m)) J → AllByRecursion (λ m. IsSome (B m)) J
-all-answered A B n a [] adds all = tt
-all-answered A B n a (m ∷ J) adds all = (still-answered A B n m a adds all.0, all-answered A B n a J adds all.1)
+all-answered A B n a J adds = AllByRecursion-weaker (λ m. IsSome (A m)) (λ m. IsSome (B m)) J (λ m given. still-answered A B n m a adds given)
 
 -- ---- a version that was there
 

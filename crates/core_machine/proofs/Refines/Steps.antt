@@ -1,13 +1,13 @@
 -- One event of the machine is one line answered by what the core keeps.
-use Rattle.fs_types.proofs.Common.{◌≡◌, ◌≢◌, ℕ, ◌+◌, ◌<◌, ◌≤◌, Bool, false, cond, List, length, set, slice_index, Some, None, IsSome}
+use Rattle.fs_types.proofs.Common.{cond-false, false_from_ne_true, and_parts, eqb-true, ◌≡◌, ◌≢◌, ℕ, ◌+◌, ◌<◌, ◌≤◌, false, List, length, set, slice_index, Some, None, IsSome}
 use Rattle.fs_types.proofs.Common.{is_some, refl, sym, ap, subst, ◌∙◌, arith, inl, inr, nat_eq, eq-eqb, ◌&&◌, slice_get, bytes_eq, cases_eq}
-use Rattle.fs_types.proofs.Common.{ne_eqb, length-set, get_or-set_same, get_or-set_other, same_Some, slice_get_within, bytes_eq-Decides}
-use Rattle.fs_script.specs.Vocabulary.{Answer, Given, answer_at, put_answer, Job, op_at, own_at, own_op, rank_at, rank_in, phase, program}
+use Rattle.fs_types.proofs.Common.{length-set, get_or-set_same, get_or-set_other, same_Some, slice_get_within, bytes_eq-Decides}
+use Rattle.fs_script.specs.Vocabulary.{Answer, Given, answer_at, put_answer, Job, op_at, own_op, rank_in, phase, program}
 use Rattle.fs_script.specs.Vocabulary.{Answering, pending}
-use Rattle.core_machine.specs.Vocabulary.{OpLine, Op, PathState, ClientPath, AreSound, pending_lines, Follows, kept_event, Places}
+use Rattle.core_machine.specs.Vocabulary.{OpLine, PathState, ClientPath, AreSound, pending_lines, Follows, kept_event, Places}
 use Rattle.core_machine.specs.Vocabulary.{IsAnsweredUpTo, after_line, Holds, Stands, StandsForOwner, StandsForClient, end_of}
 use Rattle.fs_script.proofs.CallerLemmas.{AddsAnswer-put, own_op-rank, op_at-within, program-op}
-use Rattle.core_machine.proofs.Paths.{place_unique, other_bytes}
+use Rattle.core_machine.proofs.Paths.{place_unique}
 use Rattle.core_machine.proofs.Places.{StandsNext, comes_next, upto-own, upto-other}
 use Rattle.core_machine.proofs.Refines.Answers.{IsOpenFrom-next, over_answers-until}
 use Rattle.core_machine.proofs.Refines.Owners.{IsNewAnswer, StandsForOwner-own, StandsForOwner-other}
@@ -19,22 +19,11 @@ use Rattle.core_machine.proofs.Refines.Journals.{slice_get-set_same, slice_get-s
 own_op-here : (o : OpLine) → own_op o.rank o.path (Some o) ≡ Some o.op
 own_op-here o = rw (eq-eqb o.rank o.rank refl, (bytes_eq-Decides o.path o.path).1 refl) refl
 
-no_op : (a b : Bool) (op : Op) → (a && b) ≡ false → cond (a && b) (Some op) None ≡ None
-no_op a b op e = rw e refl
-
--- it is no line of another client
-own_op-client : (o : OpLine) (r : ℕ) (p : List ℕ) → o.rank ≢ r → own_op r p (Some o) ≡ None
-own_op-client o r p other = no_op (nat_eq o.rank r) (bytes_eq o.path p) o.op (ap (λ b. b && bytes_eq o.path p) (ne_eqb o.rank r other))
-
-and-false : (a b : Bool) → b ≡ false → (a && b) ≡ false
-and-false a b e = grind (arith, e)
-
--- nor of another path
-own_op-path : (o : OpLine) (r : ℕ) (p : List ℕ) → o.path ≢ p → own_op r p (Some o) ≡ None
-own_op-path o r p other = no_op (nat_eq o.rank r) (bytes_eq o.path p) o.op (and-false (nat_eq o.rank r) (bytes_eq o.path p) (other_bytes o.path p other))
-
-own_at-rank : (s : Job) (r : ℕ) (p : List ℕ) (k : ℕ) → IsSome (own_at s r p k) → rank_at s k ≡ Some r
-own_at-rank s r p k own = own_op-rank r p (op_at s k) own
+-- it is no line of another client, nor of another path
+own_op-other : (o : OpLine) (r : ℕ) (p : List ℕ) → (o.rank ≡ r → o.path ≡ p → ⊥) → own_op r p (Some o) ≡ None
+own_op-other o r p other = cond-false (nat_eq o.rank r && bytes_eq o.path p) (Some o.op) None (false_from_ne_true _ (λ both.
+    let parts = and_parts (nat_eq o.rank r) (bytes_eq o.path p) both in
+    other (eqb-true o.rank r parts.0) ((bytes_eq-Decides o.path p).0 parts.1)))
 
 -- ---- the line that was answered, and what is kept after it
 
@@ -83,7 +72,7 @@ module _ {s : Job} {paths : List (List ℕ)} {states : List PathState} {answers 
   pub is_own : IsOwn s given t.line.rank t.line.path t.number t.line
   is_own = record {
     own = ap (own_op t.line.rank t.line.path) t.is ∙ own_op-here t.line;
-    from = IsOpenFrom-next s t.line.rank t.line.path given t.number (comes_next stands_next) (ap rank_in t.is) (own_at-rank s t.line.rank t.line.path);
+    from = IsOpenFrom-next s t.line.rank t.line.path given t.number (comes_next stands_next) (ap rank_in t.is) (λ k own. own_op-rank t.line.rank t.line.path (op_at s k) own);
     within = (let inside = op_at-within s t.number t.line t.is in omega (arith, inside.1));
   }
 
@@ -116,7 +105,7 @@ module _ {s : Job} {paths : List (List ℕ)} {states : List PathState} {answers 
         subst (λ i. StandsForClient s given_then i t.line.path t.then.owned k) (rank-is ∙ sym is) (subst (StandsForClient s given_then t.line.rank t.line.path t.then.owned) (same_Some t.own k there) client-after)
     | inr other ↦
         let kept = sym (slice_get-set_other t.was.clients.items r q t.own other) ∙ ap (λ ks. slice_get ks q) (sym t.changed) ∙ found in
-        let none = ap (own_op q t.line.path) t.is ∙ own_op-client t.line q t.line.path (λ e. other (sym e ∙ rank-is)) in
+        let none = ap (own_op q t.line.path) t.is ∙ own_op-other t.line q t.line.path (λ e same. other (sym e ∙ rank-is)) in
         StandsForClient-other s given given_then turns.phase t.number t.line t.answer _ q t.line.path t.was.owned t.then.owned k is_answer none grows stood.owned (stood.clients q k kept)
   ]
 
@@ -134,7 +123,7 @@ module _ {s : Job} {paths : List (List ℕ)} {states : List PathState} {answers 
     owned = StandsForOwner-other s given given_then turns.phase t.number t.line t.answer x.owned is_answer stands.owned;
     sized = stands.sized;
     clients = λ q k found.
-        let none = ap (own_op q p) t.is ∙ own_op-path t.line q p off in
+        let none = ap (own_op q p) t.is ∙ own_op-other t.line q p (λ same e. off e) in
         StandsForClient-other s given given_then turns.phase t.number t.line t.answer false q p x.owned x.owned k is_answer none (record { journal = refl }) stands.owned (stands.clients q k found);
   }
 

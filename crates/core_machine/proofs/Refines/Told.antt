@@ -1,10 +1,11 @@
 -- The end of a phase: all clients are told of every path, and all that is kept goes on holding in the next phase.
-use Rattle.fs_types.proofs.Common.{◌≡◌, ℕ, zero, suc, ◌<◌, Bool, false, cond, List, [], ◌∷◌, ◌++◌, length, map, take, drop, set, get_or}
+use Rattle.fs_types.proofs.Common.{◌≡◌, ℕ, zero, suc, ◌<◌, Bool, false, cond, List, [], ◌∷◌, length, map}
 use Rattle.fs_types.proofs.Common.{Option, Some, None, IsSome, is_some, Vec, nat_lt, count_by, slice_index, refl, sym, ap, ◌∙◌, subst}
 use Rattle.fs_types.proofs.Common.{arith, zip, slice_get, AllByRecursion, lt-ltb, length-map, sum_by-cons, map-map, same_Some}
 use Rattle.fs_script.specs.Vocabulary.{Given, answer_at, Job, phase, Answering}
 use Rattle.core_machine.specs.Vocabulary.{Extent, OwnedPath, PathState, known_of, file_of, board_now, with_board, Places, IsAnsweredUpTo}
 use Rattle.core_machine.specs.Vocabulary.{client_at, moment_of, Holds, Stands, StandsForOwner}
+use Rattle.fs_script.proofs.CallerLemmas.{AllByRecursion-weaker}
 use Rattle.core_machine.proofs.Refines.Journals.{journal_kept}
 
 -- lines of phases before a later one are all of the lines
@@ -25,13 +26,9 @@ StandsForOwner-told s A now next x past stands = record {
   answered = stands.answered;
   written = stands.written;
   file = stands.file;
-  board = all-earlier s next x.journal.items (earlier x.journal.items stands.answered);
+  board = all-earlier s next x.journal.items (AllByRecursion-weaker (λ m. IsSome (A m)) (λ m. phase s m < next) x.journal.items past stands.answered);
   known = known-board s x.file ∙ ap known_of stands.file;
 }
-  where
-    earlier : (J : List ℕ) → AllByRecursion (λ m. IsSome (A m)) J → AllByRecursion (λ m. phase s m < next) J
-    earlier [] all = tt
-    earlier (m ∷ J) all = (past m all.0, earlier J all.1)
 
 -- all that is kept, once all clients were told and the next phase has begun
 pub Holds-told : (s : Job) (paths : List (List ℕ)) (states : List PathState) (answers : Given) (turns then : Places) → then.job ≡ turns.job → then.places ≡ turns.places → turns.phase < then.phase
@@ -60,13 +57,6 @@ Holds-told s paths states answers turns then job places later held = record {
     told-at [] i x is = absurd cc
     told-at (y ∷ ys) zero x is = (y, refl, same_Some (with_board y) x is)
     told-at (y ∷ ys) (suc i) x is = told-at ys i x is
-
--- one path more is told of
-pub tell-next : (xs : List PathState) (i : ℕ) (x : PathState) → i < length xs → x ≡ get_or (map with_board (take i xs) ++ drop i xs) i x
-    → set (map with_board (take i xs) ++ drop i xs) i (with_board x) ≡ map with_board (take (suc i) xs) ++ drop (suc i) xs
-tell-next [] i x lt is = absurd (omega arith)
-tell-next (y ∷ ys) zero x lt is = ap (λ z. with_board z ∷ ys) is
-tell-next (y ∷ ys) (suc i) x lt is = ap (λ zs. with_board y ∷ zs) (tell-next ys i x (omega arith) is)
 
 -- the moment stays
 pub moment-told : (s : Job) (paths : List (List ℕ)) (states : List PathState) (answers : Given) (turns then : Places) (spent : Bool) → then.places ≡ turns.places

@@ -1,5 +1,4 @@
-use Rattle.fs_types.proofs.Common.{◌≡◌, length, take, ap, ◌∙◌, arith, take_all}
-use Rattle.core_machine.specs.Vocabulary.{bytes_of_extents}
+use Rattle.fs_types.proofs.Common.{arith}
 use Rattle.core_machine.proofs.Extents.Bytes.{IsExtent-at, length-bytes_of_extents-more}
 use Rattle.core_machine.proofs.extent.covered.Goals as goal
 

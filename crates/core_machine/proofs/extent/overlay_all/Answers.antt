@@ -1,6 +1,6 @@
-use Rattle.fs_types.proofs.Common.{◌≡◌, ◌+◌, ◌<◌, length, take, get_or, ap, sym, ◌∙◌, arith, take_all, get_or-replicate}
-use Rattle.core_machine.specs.Vocabulary.{bytes_of_extents, byte_over}
-use Rattle.core_machine.proofs.Extents.Bytes.{IsExtent-at, get_or-bytes_of_extents-more}
+use Rattle.fs_types.proofs.Common.{◌+◌, ◌<◌, length, ap, sym, ◌∙◌, arith}
+use Rattle.core_machine.specs.Vocabulary.{byte_over}
+use Rattle.core_machine.proofs.Extents.Bytes.{get_or-bytes_of_extents-more}
 use Rattle.core_machine.proofs.extent.overlay_all.Goals as goal
 
 pub loop-x-preserved : goal.loop-x-preserved

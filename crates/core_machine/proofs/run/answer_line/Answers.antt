@@ -1,10 +1,9 @@
-use Rattle.fs_types.proofs.Common.{◌≡◌, ℕ, zero, suc, ◌<◌, false, List, [], ◌∷◌, length, Some, slice_get, set, is_some, refl, sym, ap}
+use Rattle.fs_types.proofs.Common.{slice_get_read, ◌≡◌, ℕ, zero, suc, ◌<◌, false, List, [], ◌∷◌, length, Some, slice_get, set, is_some, refl, sym, ap}
 use Rattle.fs_types.proofs.Common.{subst, arith}
 use Rattle.fs_script.specs.Vocabulary.{Answer, Given, put_answer}
 use Rattle.core_machine.specs.Vocabulary.{PathState, FollowsFor, IsSoundFor, moment_of, after_line, Holds, step}
 use Rattle.fs_script.proofs.CallerLemmas.{op_at-within, program-op}
 use Rattle.core_machine.proofs.Refines.Goes.{Goes, goes-kept}
-use Rattle.core_machine.proofs.Refines.Journals.{slice_get-read}
 use Rattle.core_machine.proofs.Refines.Reads.{Stands-read}
 use Rattle.core_machine.proofs.Refines.Steps.{Answered, Holds-after}
 use Rattle.core_machine.proofs.Refines.Moments.{step-is}
@@ -56,7 +55,7 @@ answered c =
       place = c.place-i.result;
       at = c.place-i.ensures.there;
       was = x;
-      there = slice_get-read c.args.states.now c.place-i.result x (omega (arith, c.place-i.ensures.within, c.requires.holds.kept)) c.index-states-i.is;
+      there = slice_get_read c.args.states.now (length c.args.states.now) c.place-i.result x refl (omega (arith, c.place-i.ensures.within, c.requires.holds.kept)) c.index-states-i.is;
       client = follows.client;
       beside = follows.beside;
       answer = c.in_ok-answer.answer;
