@@ -16,9 +16,9 @@ pub record Goes (s : Job) (turns : Places) (r n : ℕ) : Type 0 where
   pub next : slice_get (program s r) (slice_index turns.places r) ≡ Some n
   pub now : phase s n ≡ turns.phase
 
-pub goes-kept : (s : Job) (paths : List (List ℕ)) (states : List PathState) (answers : Given) (turns : Places) (r n : ℕ) → Holds s paths states answers turns
+pub goes-kept : {s : Job} {paths : List (List ℕ)} {states : List PathState} {answers : Given} {turns : Places} (r n : ℕ) → Holds s paths states answers turns
     → Contains (going turns) r → next_in turns r ≡ Some n → Goes s turns r n
-goes-kept s paths states answers turns r n held has next =
+goes-kept {turns} r n held has next =
     let goes = Goes-from_Contains turns r has in
     let same = same_Some goes.0 n (sym goes.1.next ∙ next) in
     let clients = subst HasClients (sym held.same) held.job in
@@ -26,15 +26,15 @@ goes-kept s paths states answers turns r n held has next =
     (record { within = next_in-within turns r n clients next; next = next; now = ap (phase turns.job) (sym same) ∙ goes.1.of_phase })
 
 -- a client that is ready goes, and has a next line; memory didn't run out
-pub ready-going : (s : Job) (paths : List (List ℕ)) (states : List PathState) (answers : Given) (turns : Places) (spent : Bool) (r : ℕ) → (spent ≡ false → Holds s paths states answers turns) → IsInPhase turns
+pub ready-going : (s : Job) (paths : List (List ℕ)) (states : List PathState) (answers : Given) {turns : Places} (spent : Bool) (r : ℕ) → (spent ≡ false → Holds s paths states answers turns) → IsInPhase turns
     → Contains (ready (moment_of s paths states answers turns spent)) r → (spent ≡ false) × Contains (going turns) r
-ready-going s paths states answers turns true r holds phases has = absurd (let none : has.0 < 0 = has.1 in omega arith)
-ready-going s paths states answers turns false r holds phases has = (refl, subst (λ xs. Contains xs r) (ready-kept s paths states answers turns (holds refl) phases) has)
+ready-going s paths states answers true r holds phases has = absurd (let none : has.0 < 0 = has.1 in omega arith)
+ready-going s paths states answers {turns} false r holds phases has = (refl, subst (λ xs. Contains xs r) (ready-kept (holds refl) phases) has)
 
-pub goes-some : (s : Job) (paths : List (List ℕ)) (states : List PathState) (answers : Given) (turns : Places) (r : ℕ) → Holds s paths states answers turns → Contains (going turns) r → (n : ℕ) × Goes s turns r n
-goes-some s paths states answers turns r held has =
+pub goes-some : {s : Job} {paths : List (List ℕ)} {states : List PathState} {answers : Given} {turns : Places} (r : ℕ) → Holds s paths states answers turns → Contains (going turns) r → (n : ℕ) × Goes s turns r n
+goes-some {s} {paths} {states} {answers} {turns} r held has =
     let line = Goes-from_Contains turns r has in
-    (line.0, goes-kept s paths states answers turns r line.0 held has line.1.next)
+    (line.0, goes-kept r line.0 held has line.1.next)
 
 -- ---- the events that are left
 
@@ -56,9 +56,9 @@ events_left-is : (s : Job) (paths : List (List ℕ)) (states : List PathState) (
     → events_left (moment_of s paths states answers turns spent) ≡ sum_by (left s turns.places) (range_with_len 0 s.shape.clients)
 events_left-is s paths states answers turns spent i = sum_by (λ q. length (program s q) - (client_of-places turns.places q i).place) (range_with_len 0 s.shape.clients)
 
-pub nearer : (s : Job) (paths : List (List ℕ)) (states states' : List PathState) (answers answers' : Given) (turns : Places) (spent : Bool) (r n : ℕ) → Goes s turns r n → length turns.places ≡ s.shape.clients
+pub nearer : {s : Job} (paths : List (List ℕ)) (states states' : List PathState) (answers answers' : Given) {turns : Places} (spent : Bool) {r n : ℕ} → Goes s turns r n → length turns.places ≡ s.shape.clients
     → events_left (moment_of s paths states' answers' (after_line turns r) false) < events_left (moment_of s paths states answers turns spent)
-nearer s paths states states' answers answers' turns spent r n goes size =
+nearer {s} paths states states' answers answers' {turns} spent {r} {n} goes size =
     let f = left s turns.places in
     let g = left s (after_line turns r).places in
     let place = slice_index turns.places r in

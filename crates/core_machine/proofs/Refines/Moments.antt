@@ -37,7 +37,7 @@ module _ {s : Job} {paths : List (List ℕ)} {states : List PathState} {answers 
   event-is =
       let J : journal_of (journals_of paths states) t.line.path ≡ t.was.owned.journal.items = journal_of-zip paths (map journal_kept states) t.place t.line.path (journal_kept t.was) t.held.named.rising t.at (slice_get-map_some journal_kept states t.place t.was t.there) in
       ap (λ (j : List ℕ). event_of s.shape.chunk (path_now s (given t) j t.number t.line) t.line.op) J
-      ∙ ap (λ (w : PathNow). event_of s.shape.chunk w t.line.op) (sym (kept_now-is s (given t) turns.phase t.number t.line t.was.owned t.client t.now (is_own t) (stood t).owned (client_stood t)))
+      ∙ ap (λ (w : PathNow). event_of s.shape.chunk w t.line.op) (sym (kept_now-is t.now (is_own t) (stood t).owned (client_stood t)))
 
   next-is : next_line before r ≡ Some t.number
   next-is = ap (λ c. slice_get (program s r) c.place) (client_of-places turns.places r) ∙ t.next

@@ -17,18 +17,18 @@ pub journal-absent : (paths : List (List ℕ)) (states : List PathState) (p : Li
 journal-absent paths states p absent = sym (journal_of-absent paths (map journal_kept states) p absent)
 
 -- what was read at a path's place stands for the path
-pub Stands-read : (s : Job) (paths : List (List ℕ)) (states : List PathState) (answers : Given) (turns : Places) (i : ℕ) (p : List ℕ) (x : PathState) → Holds s paths states answers turns
+pub Stands-read : {s : Job} {paths : List (List ℕ)} {states : List PathState} {answers : Given} {turns : Places} (i : ℕ) (p : List ℕ) (x : PathState) → Holds s paths states answers turns
     → slice_get paths i ≡ Some p → x ≡ get_or states i x → Stands s (answer_at answers.list) turns.phase p x
-Stands-read s paths states answers turns i p x held at read =
+Stands-read {paths} {states} i p x held at read =
     let inside = slice_get_within paths i p at in
     let size = held.kept in
     held.each i p x at (slice_get_read states (length states) i x refl (omega arith) read)
 
 -- the file of a path is that of the moment
-pub file-read : (s : Job) (paths : List (List ℕ)) (states : List PathState) (answers : Given) (turns : Places) (i : ℕ) (p : List ℕ) (x : PathState) → Holds s paths states answers turns
+pub file-read : {s : Job} {paths : List (List ℕ)} {states : List PathState} {answers : Given} {turns : Places} (i : ℕ) (p : List ℕ) (x : PathState) → Holds s paths states answers turns
     → slice_get paths i ≡ Some p → x ≡ get_or states i x → file_of s x.owned.file ≡ file_now (moment_of s paths states answers turns false) p
-file-read s paths states answers turns i p x held at read =
-    (Stands-read s paths states answers turns i p x held at read).owned.file
+file-read {s} {paths} {states} {answers} {turns} i p x held at read =
+    (Stands-read i p x held at read).owned.file
     ∙ ap (λ (j : List ℕ). state s (answer_at answers.list) j (length j)) (journal-read paths states i p x held.named.rising at held.kept read)
 
 -- a path that isn't among them has no file

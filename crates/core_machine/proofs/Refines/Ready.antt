@@ -99,9 +99,9 @@ module _ {s : Job} {paths : List (List ℕ)} {states : List PathState} {answers 
   ready-is = filter-range (λ r. may_come m (next_line m r)) (λ r. is_of_phase s now (next_in turns r)) 0 s.shape.clients
       (λ r from to. ap (may_come m) (next-is r) ∙ comes-is r (next_in turns r) (omega arith) refl)
 
-pub ready-kept : (s : Job) (paths : List (List ℕ)) (states : List PathState) (answers : Given) (turns : Places) → Holds s paths states answers turns → IsInPhase turns
+pub ready-kept : {s : Job} {paths : List (List ℕ)} {states : List PathState} {answers : Given} {turns : Places} → Holds s paths states answers turns → IsInPhase turns
     → ready (moment_of s paths states answers turns false) ≡ going turns
-ready-kept s paths states answers turns held phases =
+ready-kept {s} {paths} {states} {answers} {turns} held phases =
     let e : record { job = s; places = turns.places; phase = turns.phase } ≡ turns = (λ i. record { job = (sym held.same) i; places = turns.places; phase = turns.phase }) in
     let P : Places → Type 0 = λ v. Holds s paths states answers v → IsInPhase v → ready (moment_of s paths states answers v false) ≡ going v in
     subst P e (λ h p. ready-is h p) held phases

@@ -93,10 +93,10 @@ module _ {s : Job} {paths : List (List ℕ)} {states : List PathState} {answers 
       client_stood.pending ∙ over_answers-until _ _ s t.line.rank t.line.path given t.number (end_of s) (omega arith) is_own.from
 
   owner-after : StandsForOwner s given_then turns.phase t.then.owned
-  owner-after = StandsForOwner-own s given given_then turns.phase t.number t.line t.answer t.was.owned t.then.owned t.client t.own is_answer pends t.follows t.sound stood.owned
+  owner-after = StandsForOwner-own is_answer pends t.follows t.sound stood.owned
 
   client-after : StandsForClient s given_then t.line.rank t.line.path t.then.owned t.own
-  client-after = StandsForClient-own s given given_then turns.phase t.number t.line t.answer t.line.rank t.line.path t.was.owned t.then.owned t.client t.own is_answer is_own t.follows t.sound stood.owned owner-after client_stood
+  client-after = StandsForClient-own is_answer is_own t.follows t.sound stood.owned owner-after client_stood
 
   clients-after : (q : ℕ) (k : ClientPath) → slice_get t.then.clients.items q ≡ Some k → StandsForClient s given_then q t.line.path t.then.owned k
   clients-after q k found = elim (cases_eq q r) [
@@ -106,7 +106,7 @@ module _ {s : Job} {paths : List (List ℕ)} {states : List PathState} {answers 
     | inr other ↦
         let kept = sym (slice_get-set_other t.was.clients.items r q t.own other) ∙ ap (λ ks. slice_get ks q) (sym t.changed) ∙ found in
         let none = ap (own_op q t.line.path) t.is ∙ own_op-other t.line q t.line.path (λ e same. other (sym e ∙ rank-is)) in
-        StandsForClient-other s given given_then turns.phase t.number t.line t.answer _ q t.line.path t.was.owned t.then.owned k is_answer none grows stood.owned (stood.clients q k kept)
+        StandsForClient-other is_answer none grows stood.owned (stood.clients q k kept)
   ]
 
   stands-after : Stands s given_then turns.phase t.line.path t.then
@@ -120,11 +120,11 @@ module _ {s : Job} {paths : List (List ℕ)} {states : List PathState} {answers 
 
   stands-other : (p : List ℕ) (x : PathState) → t.line.path ≢ p → Stands s given turns.phase p x → Stands s given_then turns.phase p x
   stands-other p x off stands = record {
-    owned = StandsForOwner-other s given given_then turns.phase t.number t.line t.answer x.owned is_answer stands.owned;
+    owned = StandsForOwner-other is_answer stands.owned;
     sized = stands.sized;
     clients = λ q k found.
         let none = ap (own_op q p) t.is ∙ own_op-other t.line q p (λ same e. off e) in
-        StandsForClient-other s given given_then turns.phase t.number t.line t.answer false q p x.owned x.owned k is_answer none (record { journal = refl }) stands.owned (stands.clients q k found);
+        StandsForClient-other {commits = false} {y = x.owned} is_answer none (record { journal = refl }) stands.owned (stands.clients q k found);
   }
 
   each-after : (j : ℕ) (p : List ℕ) (x : PathState) → slice_get paths j ≡ Some p → slice_get (set states t.place t.then) j ≡ Some x → Stands s given_then turns.phase p x

@@ -21,8 +21,8 @@ known-board s None = refl
 known-board s (Some xs) = refl
 
 -- the owner's part, where every line that was answered is of an earlier phase than the next one
-StandsForOwner-told : (s : Job) (A : Answering) (now next : ℕ) (x : OwnedPath) → ((m : ℕ) → IsSome (A m) → phase s m < next) → StandsForOwner s A now x → StandsForOwner s A next (record x { board = board_now x })
-StandsForOwner-told s A now next x past stands = record {
+StandsForOwner-told : {s : Job} {A : Answering} {now : ℕ} (next : ℕ) {x : OwnedPath} → ((m : ℕ) → IsSome (A m) → phase s m < next) → StandsForOwner s A now x → StandsForOwner s A next (record x { board = board_now x })
+StandsForOwner-told {s} {A} next {x} past stands = record {
   answered = stands.answered;
   written = stands.written;
   file = stands.file;
@@ -31,9 +31,9 @@ StandsForOwner-told s A now next x past stands = record {
 }
 
 -- all that is kept, once all clients were told and the next phase has begun
-pub Holds-told : (s : Job) (paths : List (List ℕ)) (states : List PathState) (answers : Given) (turns then : Places) → then.job ≡ turns.job → then.places ≡ turns.places → turns.phase < then.phase
+pub Holds-told : {s : Job} {paths : List (List ℕ)} {states : List PathState} {answers : Given} {turns : Places} (then : Places) → then.job ≡ turns.job → then.places ≡ turns.places → turns.phase < then.phase
     → Holds s paths states answers turns → Holds s paths (map with_board states) answers then
-Holds-told s paths states answers turns then job places later held = record {
+Holds-told {s} {states} {answers} {turns} then job places later held = record {
   job = held.job;
   same = job ∙ held.same;
   named = held.named;
@@ -46,7 +46,7 @@ Holds-told s paths states answers turns then job places later held = record {
       let y = told-at states i x there in
       let stood = held.each i p y.0 at y.1 in
       subst (Stands s (answer_at answers.list) then.phase p) y.2 (record {
-        owned = StandsForOwner-told s (answer_at answers.list) turns.phase then.phase y.0.owned (λ m given. let was = held.past m given in omega arith) stood.owned;
+        owned = StandsForOwner-told then.phase (λ m given. let was = held.past m given in omega arith) stood.owned;
         sized = stood.sized;
         clients = λ r k found. let c = stood.clients r k found in
             record { opened = c.opened; pending = c.pending; extents = c.extents; seen = c.seen; within = c.within; known = c.known };

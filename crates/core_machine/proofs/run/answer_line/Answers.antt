@@ -11,7 +11,7 @@ use Rattle.core_machine.proofs.run.answer_line.Goals.{After-next-n, After-set}
 use Rattle.core_machine.proofs.run.answer_line.Goals as goal
 
 goes : (c : After-next-n) → Goes c.args.s.now c.args.turns.now c.args.r c.next-n.result
-goes c = goes-kept c.args.s.now c.args.paths.now c.args.states.now c.args.answers.now c.args.turns.now c.args.r c.next-n.result c.requires.holds c.requires.going c.next-n.ensures.next
+goes c = goes-kept c.args.r c.next-n.result c.requires.holds c.requires.going c.next-n.ensures.next
 
 pub operation-o-requires : goal.operation-o-requires
 operation-o-requires c = ap is_some (program-op c.args.s.now c.args.r _ c.next-n.result (goes c).next).1
@@ -24,8 +24,8 @@ some-at (x ∷ xs) (suc i) lt = some-at xs i (omega arith)
 pub answer_on_path-requires-clause-sound : goal.answer_on_path-requires-clause-sound
 answer_on_path-requires-clause-sound c =
     let x = c.index-states-i.result in
-    let stands = Stands-read c.args.s.now c.args.paths.now c.args.states.now c.args.answers.now c.args.turns.now c.place-i.result c.operation-o.result.now.path x c.requires.holds c.place-i.ensures.there c.index-states-i.is in
-    let within = (goes-kept c.args.s.now c.args.paths.now c.args.states.now c.args.answers.now c.args.turns.now c.args.r c.next-n.result c.requires.holds c.requires.going c.next-n.ensures.next).within in
+    let stands = Stands-read c.place-i.result c.operation-o.result.now.path x c.requires.holds c.place-i.ensures.there c.index-states-i.is in
+    let within = (goes-kept c.args.r c.next-n.result c.requires.holds c.requires.going c.next-n.ensures.next).within in
     let k = some-at x.clients.items c.args.r (let size = stands.sized in omega arith) in
     subst (IsSoundFor c.args.s.now c.args.r) c.index-states-i.is (record {
       client = k.0;
@@ -42,7 +42,7 @@ set-requires-clause-within c =
 abbrev answered : (c : After-set) → Answered c.args.s.now c.args.paths.now c.args.states.now c.args.answers.now c.args.turns.now c.args.r
 answered c =
     let x = c.index-states-i.result in
-    let going = goes-kept c.args.s.now c.args.paths.now c.args.states.now c.args.answers.now c.args.turns.now c.args.r c.next-n.result c.requires.holds c.requires.going c.next-n.ensures.next in
+    let going = goes-kept c.args.r c.next-n.result c.requires.holds c.requires.going c.next-n.ensures.next in
     let follows = subst (λ (z : PathState). FollowsFor c.args.s.now c.next-n.result c.operation-o.result.now.op c.args.r z c.answer_on_path.new.state c.in_ok-answer.answer) (sym c.index-states-i.is) c.in_ok-answer.ensures in
     record {
       held = c.requires.holds;

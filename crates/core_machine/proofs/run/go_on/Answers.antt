@@ -20,7 +20,7 @@ returns-then-advance-clause-run c =
       sized = ap length (states-are c) ∙ length-map r.states.items with_board ∙ c.requires.sized;
       phases = c.advance.ensures.phase;
       holds = λ _. subst (λ xs. Holds r.script.now r.paths xs r.answers c.advance.new.self) (sym (states-are c))
-          (Holds-told r.script.now r.paths r.states.items r.answers (after_line r.turns c.args.r) c.advance.new.self c.advance.ensures.job c.advance.ensures.places (c.advance.ensures.begins c.if-advance.true) c.requires.holds);
+          (Holds-told c.advance.new.self c.advance.ensures.job c.advance.ensures.places (c.advance.ensures.begins c.if-advance.true) c.requires.holds);
     }
 
 pub returns-then-advance-clause-moment : goal.returns-then-advance-clause-moment

@@ -7,5 +7,5 @@ pub returns-else-run : goal.returns-else-run
 returns-else-run c =
     let r = c.args.run.now in
     c.ready.ensures.ready
-    ∙ sym (ready-kept r.script.now r.paths r.states.items r.answers r.turns (c.requires.holds c.if-run.false) c.requires.phases)
+    ∙ sym (ready-kept (c.requires.holds c.if-run.false) c.requires.phases)
     ∙ ap (λ b. ready (moment_of r.script.now r.paths r.states.items r.answers r.turns b)) (sym c.if-run.false)
