@@ -168,8 +168,8 @@ record IsNamedIn (ls : List Line) (p : List ℕ) : Type 0 where
   on : op.path ≡ p
 
 -- a line before them changes nothing of that
-IsNamedIn-later : (l : Line) (ls : List Line) (p : List ℕ) → IsNamedIn ls p → IsNamedIn (l ∷ ls) p
-IsNamedIn-later l ls p named = record { place = suc named.place; op = named.op; is = named.is; on = named.on }
+IsNamedIn-later : (l : Line) {ls : List Line} {p : List ℕ} → IsNamedIn ls p → IsNamedIn (l ∷ ls) p
+IsNamedIn-later l named = record { place = suc named.place; op = named.op; is = named.is; on = named.on }
 
 -- a path was there before an operation, or is its path
 Contains-with_op-cases : (ps : List (List ℕ)) (o : Option OpLine) (q : List ℕ) → Contains (with_op ps o) q → Contains ps q ⊎ ((x : OpLine) × (o ≡ Some x) × (x.path ≡ q))
@@ -184,7 +184,7 @@ Contains-fold-cases acc (l ∷ ls) q there = elim (Contains-fold-cases (with_pat
     | inl earlier ↦ inl earlier
     | inr here ↦ inr (record { place = 0; op = here.0; is = here.1; on = here.2 })
   ]
-  | inr named ↦ inr (IsNamedIn-later l ls q named)
+  | inr named ↦ inr (IsNamedIn-later l named)
 ]
 
 -- each path of a job's lines is one that it names

@@ -52,8 +52,8 @@ module _ {s : Job} {A : Answering} {r place n : ℕ} (t : StandsNext s A r place
   ]
 
 -- another client's place stays
-pub upto-other : (s : Job) (A B : Answering) (q n place : ℕ) (o : OpLine) (a : Answer) → AddsAnswer A n a B → op_at s n ≡ Some o → o.rank ≢ q → IsAnsweredUpTo s A q place → IsAnsweredUpTo s B q place
-upto-other s A B q n place o a adds is other upto k j at =
+pub upto-other : (s : Job) {A B : Answering} (q : ℕ) {n : ℕ} (place : ℕ) (o : OpLine) {a : Answer} → AddsAnswer A n a B → op_at s n ≡ Some o → o.rank ≢ q → IsAnsweredUpTo s A q place → IsAnsweredUpTo s B q place
+upto-other s q {n} place o adds is other upto k j at =
     let op = program-op s q k j at in
     let another : j ≢ n = λ e. other (ap (λ l. l.rank) (same_Some o op.0 (sym is ∙ ap (op_at s) (sym e) ∙ op.1)) ∙ op.2) in
     ap is_some (adds.others j another) ∙ upto k j at

@@ -18,9 +18,9 @@ empty-journals [] p all = refl
 empty-journals (j ∷ js) p all =
     cond_both (bytes_eq j.0 p) _ _ (λ J. J ≡ []) (λ _. all.0) (λ _. empty-journals js p all.1)
 
-first-legal : (told : List ℕ) (m : Moment) → HasClients m.job → IsFirst m.job m
+first-legal : (told : List ℕ) {m : Moment} → HasClients m.job → IsFirst m.job m
     → IsLegalMoment told m
-first-legal told m clients first =
+first-legal told {m} clients first =
     let none : (n : ℕ) → printed m n ≡ None = λ n. ap (λ xs. answer_at xs n) first.answers in
     record {
       job = clients;
@@ -41,12 +41,12 @@ first-legal told m clients first =
 -- ---- the run
 
 -- it keeps the job, and a legal moment legal
-run-legal : (told : List ℕ) (m n : Moment) (turns : List Turn) → IsLegalMoment told m
+run-legal : {told : List ℕ} (m n : Moment) (turns : List Turn) → IsLegalMoment told m
     → Reaches m turns n → (n.job ≡ m.job) × IsLegalMoment told n
-run-legal told m n [] so_far is = (ap (λ x. x.job) (sym is), subst (IsLegalMoment told) is so_far)
-run-legal told m n (turn ∷ turns) so_far run =
-    let first = step-is (IsTurn-from_ready told m turn.client so_far run.0) in
-    let rest = run-legal told (step m turn) n turns (step-legal told m turn so_far run.0) run.1 in
+run-legal {told} m n [] so_far is = (ap (λ x. x.job) (sym is), subst (IsLegalMoment told) is so_far)
+run-legal {told} m n (turn ∷ turns) so_far run =
+    let first = step-is (IsTurn-from_ready turn.client so_far run.0) in
+    let rest = run-legal (step m turn) n turns (step-legal turn so_far run.0) run.1 in
     (rest.0 ∙ ap (λ x. x.job) first, rest.1)
 
 -- what it reports at its end is legal
@@ -56,6 +56,6 @@ pub runs-legal : (told : List ℕ) (s : Job) (m n : Moment) (turns : List Turn)
 runs-legal told s m n turns clients first run none going =
     let own = sym first.job in
     let begins = subst (λ j. IsFirst j m) own first in
-    let so_far = first-legal told m (subst HasClients own clients) begins in
-    let end = run-legal told m n turns so_far run in
+    let so_far = first-legal told (subst HasClients own clients) begins in
+    let end = run-legal m n turns so_far run in
     subst (λ j. IsLegal j (report_of n) told) (end.0 ∙ first.job) (report-legal end.1 none going)

@@ -83,7 +83,7 @@ module _ {told : List ℕ} {m : Moment} {r : ℕ} (t : IsTurn told m r) (a : Ans
       → IsAnsweredUpTo m.job B i (client_of m i).place
   other_place i other within =
       let apart : o.rank ≢ i = λ e. other (sym e ∙ t.rank) in
-      upto-other m.job (printed m) B i n (client_of m i).place o a adds is apart (so_far.places i within)
+      upto-other m.job i (client_of m i).place o adds is apart (so_far.places i within)
 
   operations-after : (i : ℕ) → IsSome (B i) → IsSome (op_at m.job i)
   operations-after i given = elim (cases_eq i n) [
@@ -163,10 +163,10 @@ after_event-legal t None committed doing none = rw none (unanswered-legal t doin
 after_event-legal t (Some a) committed doing legal = answered-legal t a committed doing legal
 
 -- the step of a client that is ready keeps a moment legal
-pub step-legal : (told : List ℕ) (m : Moment) (turn : Turn) → IsLegalMoment told m
+pub step-legal : {told : List ℕ} {m : Moment} (turn : Turn) → IsLegalMoment told m
     → Contains (ready m) turn.client → IsLegalMoment told (step m turn)
-step-legal told m turn so_far has =
-    let t = IsTurn-from_ready told m turn.client so_far has in
+step-legal {told} {m} turn so_far has =
+    let t = IsTurn-from_ready turn.client so_far has in
     let e = event_at m t.number t.line in
     subst (IsLegalMoment told) (sym (step-is t))
     (after_event-legal t e.answer e.commits e.doing (event_of-legal (coming t) t.line.op))

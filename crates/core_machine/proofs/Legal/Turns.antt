@@ -39,9 +39,9 @@ line-of m None h = absurd (true≢false (sym h))
 line-of m (Some n) h = (n, refl, h)
 
 -- a client that is ready has a turn
-pub IsTurn-from_ready : (told : List ℕ) (m : Moment) (r : ℕ)
+pub IsTurn-from_ready : {told : List ℕ} {m : Moment} (r : ℕ)
     → IsLegalMoment told m → Contains (ready m) r → IsTurn told m r
-IsTurn-from_ready told m r so_far has =
+IsTurn-from_ready {m} r so_far has =
     let next = line-of m (next_line m r) (ready-may_come m r has) in
     let op = program-op m.job r (client_of m r).place next.0 next.1 in
     record {

@@ -47,7 +47,7 @@ module _ (v : Places) (r n : ℕ) (within : r < length v.places) (goes : Goes v 
   pub going-stays : goes_in (after_line v r) r ≡ true → going (after_line v r) ≡ going v
   going-stays of = filter_agree (goes_in (after_line v r)) (goes_in v)
       (λ q. elim (cases_eq q r) [
-        | inl is ↦ ap (goes_in (after_line v r)) is ∙ of ∙ sym (ap (goes_in v) is ∙ goes_in-true v r n goes)
+        | inl is ↦ ap (goes_in (after_line v r)) is ∙ of ∙ sym (ap (goes_in v) is ∙ goes_in-true goes)
         | inr other ↦ ap (is_of_phase v.job v.phase) (next_in-other v r q other)
       ]) (range_with_len 0 v.job.shape.clients)
 

@@ -29,13 +29,13 @@ Goes-from_Contains v r has =
     let line = line-of_phase v.job v.phase (next_in v r) passed.0 in
     (line.0, record { next = line.1; of_phase = line.2 })
 
-pub goes_in-true : (v : Places) (r n : ℕ) → Goes v r n → goes_in v r ≡ true
-goes_in-true v r n goes = ap (is_of_phase v.job v.phase) goes.next ∙ eq-eqb (phase v.job n) v.phase goes.of_phase
+pub goes_in-true : {v : Places} {r n : ℕ} → Goes v r n → goes_in v r ≡ true
+goes_in-true {v} {n} goes = ap (is_of_phase v.job v.phase) goes.next ∙ eq-eqb (phase v.job n) v.phase goes.of_phase
 
 -- where no client is ready none goes
-pub none-goes : (v : Places) (r n : ℕ) → going v ≡ [] → r < v.job.shape.clients → Goes v r n → ⊥
-none-goes v r n empty within goes =
-    let place = passing-place (goes_in v) 0 v.job.shape.clients r (goes_in-true v r n goes) (omega arith) (omega arith) in
+pub none-goes : {v : Places} {r n : ℕ} → going v ≡ [] → r < v.job.shape.clients → Goes v r n → ⊥
+none-goes {v} {r} {n} empty within goes =
+    let place = passing-place (goes_in v) 0 v.job.shape.clients r (goes_in-true goes) (omega arith) (omega arith) in
     none-some r (sym (ap (λ (rs : List ℕ). slice_get rs place.0) empty) ∙ place.1)
 
 -- the run is in a phase where some client goes and no next line is of an earlier one

@@ -192,6 +192,6 @@ module _ {t : Inside} {r : ℕ} {w : Places} {i : ℕ} {p q : Program} {rest : V
         | inl is ↦
             let v = places_of t.script.now left t.phase in
             let here : Goes v first.0 first.1 = record { next = first.3.next; of_phase = first.3.of_phase ∙ sym is } in
-            absurd (none-goes v first.0 first.1 (sym others-go ∙ empty) first.2 here)
+            absurd (none-goes (sym others-go ∙ empty) first.2 here)
         | inr other ↦ omega (arith, first.3.of_phase)
       ]

@@ -81,7 +81,7 @@ module _ (s : Job) (ps : List Program) (are : ArePrograms s ps) where
           (from.0, from.2, program-within from.0 from.1 from.3, record { next = next; of_phase = from.5 })
 
       pub going-least : going (places_of s ps k) ≡ [] → ⊥
-      going-least empty = none-goes (places_of s ps k) Goes-least.0 Goes-least.1 empty Goes-least.2 Goes-least.3
+      going-least empty = none-goes empty Goes-least.2 Goes-least.3
 
       pub IsInPhase-least : IsInPhase (places_of s ps k)
       IsInPhase-least = IsInPhase-from_some (places_of s ps k)

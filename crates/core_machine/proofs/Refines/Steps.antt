@@ -150,7 +150,7 @@ module _ {s : Job} {paths : List (List ℕ)} {states : List PathState} {answers 
         (subst (IsAnsweredUpTo s given_then r) (sym (get_or-set_same turns.places r (place + 1) 0 (omega arith))) (upto-own stands_next given_then t.answer is_answer.adds))
     | inr other ↦
         subst (IsAnsweredUpTo s given_then q) (sym (get_or-set_other turns.places r q (slice_index turns.places r + 1) 0 other))
-        (upto-other s given given_then q t.number (slice_index turns.places q) t.line t.answer is_answer.adds t.is (λ e. other (sym e ∙ rank-is)) (t.held.upto q within))
+        (upto-other s q (slice_index turns.places q) t.line is_answer.adds t.is (λ e. other (sym e ∙ rank-is)) (t.held.upto q within))
   ]
 
   past-after : (m : ℕ) → IsSome (given_then m) → phase s m ≤ turns.phase
