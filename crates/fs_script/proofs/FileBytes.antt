@@ -33,7 +33,7 @@ module _ (s : Job) (job : IsJob s) where
   AllBytes-brought_in (Some l) each = AllBytes-brought l.op (each l refl).op
 
   AllBytes-payload : (n : ℕ) → AllBytes (payload s n)
-  AllBytes-payload n = AllBytes-brought_in (op_at s n) (λ l is. IsOpLine-from_job s n l job is)
+  AllBytes-payload n = AllBytes-brought_in (op_at s n) (λ l is. IsOpLine-from_job n l job is)
 
 -- ---- files
 

@@ -25,17 +25,17 @@ answer_at-listed (x ∷ xs) n zero below same = cond_both (x.0 == n) (Some x.1) 
 answer_at-listed (x ∷ xs) n (suc k) below same = cond_both (x.0 == n) (Some x.1) (answer_at xs n) (λ a. IsSome a) (λ _. refl) (λ _. answer_at-listed xs n k (omega arith) same)
 
 -- a report of the right shape answers each operation
-answered-in_report : (s : Job) (R : Report) (n : ℕ) (o : OpLine) → HasShape s R → op_at s n ≡ Some o → IsSome (answers_of R n)
-answered-in_report s R n o shape is =
+answered-in_report : {s : Job} {R : Report} (n : ℕ) (o : OpLine) → HasShape s R → op_at s n ≡ Some o → IsSome (answers_of R n)
+answered-in_report {s} {R} n o shape is =
     let there = subst (λ xs. Contains xs n) (sym shape.answers) (op_lines-contains s n o is) in
     answer_at-listed R.answers n there.0 there.1 there.2
 
-pub IsLegal-finished : (told : List ℕ) (s : Job) (R : Report) → HasShape s R → FilesAreStates s R → IsLegalSoFar told s (answers_of R) (journal_of R.journals) → IsLegal s R told
-IsLegal-finished told s R shape files so_far = record {
+pub IsLegal-finished : {told : List ℕ} {s : Job} {R : Report} → HasShape s R → FilesAreStates s R → IsLegalSoFar told s (answers_of R) (journal_of R.journals) → IsLegal s R told
+IsLegal-finished {s} {R} shape files so_far = record {
   shape = shape;
   journals = so_far.legal;
   lines = λ n o is.
-      let given = some_of (answers_of R n) (answered-in_report s R n o shape is) in
+      let given = some_of (answers_of R n) (answered-in_report n o shape is) in
       record { answer = given.0; given = given.1; fits = (so_far.fit o.path).each n o given.0 is refl given.1 };
   files = files;
 }

@@ -46,46 +46,46 @@ own_op-is r p (Some l) op h k =
     k l refl (eqb-true l.rank r both.0) ((bytes_eq-Decides l.path p).0 both.1) parts.1
 
 -- no version that was printed is more than the journal's length
-versions-le : (told : List ℕ) (s : Job) (A : Answering) (J : List ℕ) (r : ℕ) (p : List ℕ) (m : ℕ) (a : Answer) (v : ℕ)
+versions-le : {told : List ℕ} {s : Job} {A : Answering} {J : List ℕ} (r : ℕ) {p : List ℕ} (m : ℕ) (a : Answer) (v : ℕ)
     → AllFit told s A p J → IsSome (own_at s r p m) → A m ≡ Some a → version_of a ≡ Some v → v ≤ length J
-versions-le told s A J r p m a v fit own given prints =
+versions-le {s} {A} {J} r {p} m a v fit own given prints =
     let op = some_of (own_at s r p m) own in
     own_op-is r p (op_at s m) op.0 op.1 (λ o is of_rank on does.
     let fits = fit.each m o a is on given in
     (MatchOption-at_some ⊤ (λ w. IsInReach s A J m o w) v prints fits.version).length)
 
 -- so a line's front isn't either
-pub front-le-length_fit : (told : List ℕ) (s : Job) (A : Answering) (J : List ℕ) (r : ℕ) (p : List ℕ) (n : ℕ) → AllFit told s A p J → front s A J r p n ≤ length J
-front-le-length_fit told s A J r p n fit = front-le-length s A J r p n (λ m a v before own given prints. versions-le told s A J r p m a v fit own given prints)
+pub front-le-length_fit : {told : List ℕ} {s : Job} {A : Answering} {J : List ℕ} (r : ℕ) {p : List ℕ} (n : ℕ) → AllFit told s A p J → front s A J r p n ≤ length J
+front-le-length_fit {told} {s} {A} {J} r {p} n fit = front-le-length s A J r p n (λ m a v before own given prints. versions-le r m a v fit own given prints)
 
 -- ---- the versions that a line may print as it is answered
 
 -- no line of the journal is a later one
-pub IsNoLater-now : (s : Job) (A : Answering) (p : List ℕ) (J : List ℕ) (n r : ℕ) → IsLegalJournal s A p J → ComesNext s A n → rank_at s n ≡ Some r → IsOfNoEarlierPhase s n J → AllByRecursion (λ m. IsNoLater s r n m) J
-IsNoLater-now s A p J n r legal next mine later = AllByRecursion-from_get (λ m. IsNoLater s r n m) J (λ k m at. record {
+pub IsNoLater-now : {s : Job} {A : Answering} {p : List ℕ} {J : List ℕ} {n : ℕ} (r : ℕ) → IsLegalJournal s A p J → ComesNext s A n → rank_at s n ≡ Some r → IsOfNoEarlierPhase s n J → AllByRecursion (λ m. IsNoLater s r n m) J
+IsNoLater-now {s} {A} {p} {J} {n} r legal next mine later = AllByRecursion-from_get (λ m. IsNoLater s r n m) J (λ k m at. record {
   phase = AllByRecursion-at (λ j. phase s j ≤ phase s n) J k m later at;
   own = λ of_rank.
-      let given = some_of (A m) (answered-in_journal s A p J k m legal at) in
+      let given = some_of (A m) (answered-in_journal k m legal at) in
       let before = next.last m given.0 given.1 (of_rank ∙ sym mine) in
       omega arith;
 })
 
 -- each from its front up to the length of the journal
-pub IsInReach-now : (s : Job) (A : Answering) (J : List ℕ) (n : ℕ) (o : OpLine) (v : ℕ) → IsLegalJournal s A o.path J → ComesNext s A n → op_at s n ≡ Some o → IsOfNoEarlierPhase s n J
+pub IsInReach-now : {s : Job} {A : Answering} {J : List ℕ} {n : ℕ} (o : OpLine) (v : ℕ) → IsLegalJournal s A o.path J → ComesNext s A n → op_at s n ≡ Some o → IsOfNoEarlierPhase s n J
     → front s A J o.rank o.path n ≤ v → v ≤ length J → IsInReach s A J n o v
-IsInReach-now s A J n o v legal next is later from to = record {
+IsInReach-now {s} {A} {J} {n} o v legal next is later from to = record {
   front = from;
   length = to;
-  no_later = AllByRecursion-take (λ m. IsNoLater s o.rank n m) v J (IsNoLater-now s A o.path J n o.rank legal next (ap rank_in is) later);
+  no_later = AllByRecursion-take (λ m. IsNoLater s o.rank n m) v J (IsNoLater-now o.rank legal next (ap rank_in is) later);
 }
 
 -- and the version that it makes itself, in the journal with the line at its end
-pub IsInReach-made : (s : Job) (A : Answering) (J : List ℕ) (n : ℕ) (o : OpLine) → IsLegalJournal s A o.path J → ComesNext s A n → op_at s n ≡ Some o → IsOfNoEarlierPhase s n J
+pub IsInReach-made : {s : Job} {A : Answering} {J : List ℕ} {n : ℕ} (o : OpLine) → IsLegalJournal s A o.path J → ComesNext s A n → op_at s n ≡ Some o → IsOfNoEarlierPhase s n J
     → front s A J o.rank o.path n ≤ length J → IsInReach s A (J ++ n ∷ []) n o (suc (length J))
-IsInReach-made s A J n o legal next is later from =
+IsInReach-made {s} {A} {J} {n} o legal next is later from =
     let size = length_push J n in
     let same = front-push s A J o.rank o.path n n (omega arith) in
-    let before = IsNoLater-now s A o.path J n o.rank legal next (ap rank_in is) later in
+    let before = IsNoLater-now o.rank legal next (ap rank_in is) later in
     record {
       front = omega arith;
       length = omega arith;

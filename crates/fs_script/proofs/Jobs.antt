@@ -21,8 +21,8 @@ at_line s (suc zero) o all e = absurd cc
 at_line s (suc (suc k)) o all e = at_place s.shape s.lines k o all e
 
 -- an operation of a job within the limits is within them
-pub IsOpLine-from_job : (s : Job) (n : ℕ) (o : OpLine) → IsJob s → op_at s n ≡ Some o → IsOpLine s.shape o
-IsOpLine-from_job s n o job e = at_line s n o job.lines e
+pub IsOpLine-from_job : {s : Job} (n : ℕ) (o : OpLine) → IsJob s → op_at s n ≡ Some o → IsOpLine s.shape o
+IsOpLine-from_job {s} n o job e = at_line s n o job.lines e
 
 slice_get-operation : (ls : List Line) (k : ℕ) (o : OpLine) → operation (slice_get ls k) ≡ Some o → k < length ls
 slice_get-operation [] k o h = absurd cc
@@ -38,5 +38,5 @@ op_at-within s (suc (suc k)) o h = let within = slice_get-operation s.lines k o 
 -- ---- spilling
 
 -- nothing is spilled, so every byte that is shown is compared
-pub AreTold-from_job : (s : Job) (told : List ℕ) → IsJob s → AreTold s told
-AreTold-from_job s told job = inl job.shape.spill
+pub AreTold-from_job : {s : Job} (told : List ℕ) → IsJob s → AreTold s told
+AreTold-from_job told job = inl job.shape.spill

@@ -47,7 +47,7 @@ journal_of-each (j ∷ js) rising =
 
 -- a path that the script names is a path
 IsPath-named : (s : Job) (p : List ℕ) → IsJob s → Names s p → IsPath p
-IsPath-named s p job named = subst IsPath named.on (IsOpLine-from_job s named.line named.op job named.is).path
+IsPath-named s p job named = subst IsPath named.on (IsOpLine-from_job named.line named.op job named.is).path
 
 -- what a file is printed as
 IsPrintableState-file : (f : File ℕ) → IsWithinLimits f → IsPrintableState (file_state_of f)
@@ -63,7 +63,7 @@ module _ (told : List ℕ) (s : Job) (R : Report) (job : IsJob s) (legal : IsLeg
       let J = journal_of R.journals op.0.path in
       let answered = legal.lines a.0 op.0 op.1 in
       let same = same_Some answered.answer a.1 (sym answered.given ∙ found) in
-      let printable = IsPrintableAnswer-fits told s (answers_of R) J a.0 op.0 answered.answer
+      let printable = IsPrintableAnswer-fits
       job all (legal.journals op.0.path) op.1 answered.fits in
       let within = op_at-within s a.0 op.0 op.1 in
       record { line = omega (arith, within.1, job.few); answer = subst IsPrintableAnswer same printable }
@@ -114,8 +114,8 @@ module _ (told : List ℕ) (s : Job) (R : Report) (job : IsJob s) (legal : IsLeg
 
 -- ---- reports
 
-pub IsPrintable-legal : (told : List ℕ) (s : Job) (R : Report) → IsJob s → AreTold s told → IsLegal s R told → IsPrintable R
-IsPrintable-legal told s R job all legal = record {
+pub IsPrintable-legal : {told : List ℕ} {s : Job} {R : Report} → IsJob s → AreTold s told → IsLegal s R told → IsPrintable R
+IsPrintable-legal {told} {s} {R} job all legal = record {
   answers = recursion_from_All IsPrintableLine R.answers (answers_are_printable told s R job legal all);
   journals = recursion_from_All IsPrintableJournal R.journals (journals_are_printable told s R job legal);
   files = recursion_from_All IsPrintableFile R.files (files_are_printable told s R job legal);

@@ -56,10 +56,10 @@ range_is_printable compared (Some x) (Some f) n body told within shows =
 -- ---- each answer
 
 -- versions count the lines of a journal, which are no more than those of the job
-pub IsPrintableAnswer-fits : (told : List ℕ) (s : Job) (A : Answering) (J : List ℕ) (n : ℕ) (o : OpLine) (a : Answer)
+pub IsPrintableAnswer-fits : {told : List ℕ} {s : Job} {A : Answering} {J : List ℕ} {n : ℕ} {o : OpLine} {a : Answer}
     → IsJob s → AreTold s told → IsLegalJournal s A o.path J → op_at s n ≡ Some o
     → Fits told s A J n o a → IsPrintableAnswer a
-IsPrintableAnswer-fits told s A J n o a job all legal is fits = by a fits
+IsPrintableAnswer-fits {told} {s} {A} {J} {n} {o} {a} job all legal is fits = by a fits
   where
     few : length J < 2 ^ 17
     few = omega (arith, length-journal s A o.path J legal, job.few)
@@ -67,7 +67,7 @@ IsPrintableAnswer-fits told s A J n o a job all legal is fits = by a fits
     by : (b : Answer) → Fits told s A J n o b → IsPrintableAnswer b
     by (answers.Done v) fit = omega (arith, fit.version.length, few)
     by (answers.Wrote slots) fit =
-        slots_are_few (line_view s A J n o) o.op slots (IsOpLine-from_job s n o job is).op fit.answer
+        slots_are_few (line_view s A J n o) o.op slots (IsOpLine-from_job n o job is).op fit.answer
     by (answers.Shown v m body) fit =
         let file = IsWithinLimits-state s job A J v in
         let range = range_is_printable (AreTold s told) (asked o.op) (state s A J v) m body all file fit.answer in

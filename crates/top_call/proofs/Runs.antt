@@ -41,8 +41,8 @@ entry-at (k ∷ ks) (suc i) p j rising at is =
 
 -- the paths that a job names are in the grammar
 pub IsPath-named : (s : Job) (p : List ℕ) → IsJob s → Names s p → IsPath p
-IsPath-named s p job named = subst IsPath named.on (IsOpLine-from_job s named.line named.op job named.is).path
+IsPath-named s p job named = subst IsPath named.on (IsOpLine-from_job named.line named.op job named.is).path
 
 -- and its operations are of its clients
 pub HasClients-job : (s : Job) → IsJob s → HasClients s
-HasClients-job s job n o is = (IsOpLine-from_job s n o job is).rank
+HasClients-job s job n o is = (IsOpLine-from_job n o job is).rank

@@ -103,7 +103,7 @@ module _ {told : List ℕ} {m : Moment} (so_far : IsLegalMoment told m)
       let file_at : List ℕ × List ℕ → List ℕ × FileState = λ j. (j.0, state_at j.0) in
       let IsState = λ (f : List ℕ × FileState). f.1 ≡ state_at f.0 in
       let states = All-map IsState file_at m.journals (λ k d within. refl) in
-      IsLegal-finished told m.job (report_of m) (record {
+      IsLegal-finished (record {
         answers = lines-at_end;
         journals = so_far.paths;
         files = map-map (λ f. f.0) file_at m.journals;

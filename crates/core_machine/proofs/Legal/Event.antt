@@ -62,11 +62,11 @@ IsLegalEvent k op e = IsLegalOutcome k op e.answer e.commits
 module _ (k : NextLine) where
   front-in_journal : (now k).front ≤ length k.journal
   front-in_journal =
-      front-le-length_fit k.told k.job k.counted k.journal k.line.rank k.line.path k.number k.fit
+      front-le-length_fit k.line.rank k.number k.fit
 
   MayPrint-from : (v : ℕ) → (now k).front ≤ v → v ≤ length k.journal → MayPrint k false v
   MayPrint-from v =
-      IsInReach-now k.job k.counted k.journal k.number k.line v k.legal k.next k.is k.later
+      IsInReach-now k.line v k.legal k.next k.is k.later
 
   pub MayPrint-front : MayPrint k false (now k).front
   MayPrint-front = MayPrint-from (now k).front (omega arith) front-in_journal
@@ -76,7 +76,7 @@ module _ (k : NextLine) where
 
   MayPrint-new : MayPrint k true (suc (length k.journal))
   MayPrint-new =
-      IsInReach-made k.job k.counted k.journal k.number k.line
+      IsInReach-made k.line
       k.legal k.next k.is k.later front-in_journal
 
 -- ---- answers, by whether they commit

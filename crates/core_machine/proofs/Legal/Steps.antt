@@ -122,7 +122,7 @@ module _ {told : List ℕ} {m : Moment} {r : ℕ} (t : IsTurn told m r) (a : Ans
   commit-after : commit_by o.op (pending m.job B o.rank o.path n) (B n)
       ≡ commit_of o.op (now (coming t)).pending a
   commit-after =
-      let agree = AgreeBefore-next m.job o.rank o.path (answering m) B n n a adds (omega arith) in
+      let agree = AgreeBefore-next m.job o.rank o.path n adds (omega arith) in
       let same = pending-agree m.job o.rank o.path (answering m) B n agree in
       ap (commit_by o.op (pending m.job B o.rank o.path n)) adds.added
       ∙ ap (λ q. commit_of o.op q a) (sym same)
@@ -131,13 +131,11 @@ module _ {told : List ℕ} {m : Moment} {r : ℕ} (t : IsTurn told m r) (a : Ans
       → IsLegalSoFar told m.job B (journal_of (journals_after committed))
   legal-after true k =
       let has = so_far.paths.each o.path (record { line = n; op = o; is = is; on = refl }) in
-      IsLegalSoFar-commit told m.job (answering m) B (journal m) (journal_of (journals_after true))
-      n o a next_answer so_far.legal (Pushes-with_entry o.path n m.journals has)
+      IsLegalSoFar-commit next_answer so_far.legal (Pushes-with_entry o.path n m.journals has)
       (commit-after ∙ k.commit) (k.enabled refl)
       (record { opened = k.opened; version = k.version; answer = k.answer })
   legal-after false k =
-      IsLegalSoFar-kept told m.job (answering m) B (journal m)
-      n o a next_answer so_far.legal (commit-after ∙ k.commit)
+      IsLegalSoFar-kept next_answer so_far.legal (commit-after ∙ k.commit)
       (record { opened = k.opened; version = k.version; answer = k.answer })
 
   answered-legal : (committed : Bool) (doing : Doing) → IsLegalAnswer (coming t) o.op a committed

@@ -102,7 +102,7 @@ module _ {told : List ℕ} {m : Moment} {r : ℕ} (t : IsTurn told m r) where
         is = is;
         next = comes_next;
         later = AllByRecursion-from_get (λ k. phase m.job k ≤ phase m.job n) J (λ i k at.
-            no_later_phase k (answered-in_journal m.job (answering m) o.path J i k legal at));
+            no_later_phase k (answered-in_journal i k legal at));
         legal = legal;
         fit = so_far.legal.fit o.path;
       }

@@ -51,7 +51,7 @@ pub SamePending-answered : (s : Job) (A B : Answering) (J : List ℕ) (n : ℕ) 
 SamePending-answered s A B J n a adds next =
     AllByRecursion-weaker (λ m. IsSome (A m)) (λ m. pending_at s A m ≡ pending_at s B m) J (λ m answered.
     let given = some_of (A m) answered in
-    pending_at-answered s A B m n a given.0 adds next given.1)
+    pending_at-answered m given.0 adds next given.1)
 
 -- the file at a version of a journal whose lines were all answered
 pub state-answered : (s : Job) (A B : Answering) (J : List ℕ) (n v : ℕ) (a : Answer) → AddsAnswer A n a B → ComesNext s A n → AllByRecursion (λ m. IsSome (A m)) J → state s A J v ≡ state s B J v

@@ -44,7 +44,7 @@ over_answers-own step x {s} {A} {B} {r} {p} {n} {o} {a} adds own =
     let lt = own.within in
     over_answers-until step x s r p B (suc n) (end_of s) (omega arith) (IsOpenFrom-answered s r p A B n a adds own.from)
     ∙ ap (λ q. one_more step q (B n) n (over_answers step x s B r p n)) own.own ∙ ap (λ q. one_more step (Some o.op) q n (over_answers step x s B r p n)) adds.added
-    ∙ ap (step o.op a n) (sym (over_answers-agree step x s r p A B n (AgreeBefore-next s r p A B n n a adds (omega arith)))
+    ∙ ap (step o.op a n) (sym (over_answers-agree step x s r p A B n (AgreeBefore-next s r p n adds (omega arith)))
     ∙ sym (over_answers-until step x s r p A n (end_of s) (omega arith) own.from))
 
 pub StandsForClient-own : {s : Job} {A B : Answering} {now n : ℕ} {o : OpLine} {a : Answer} {r : ℕ} {p : List ℕ} {x y : OwnedPath} {k l : ClientPath} → IsNewAnswer s A now n o a B → IsOwn s A r p n o

@@ -48,7 +48,7 @@ state-now : {s : Job} {A B : Answering} {now n : ℕ} {o : OpLine} {a : Answer} 
 state-now {s} {A} {B} {n} {a} J false f h all here = here ∙ state-answered s A B J n (length J) a h.adds h.next all
 state-now {s} {A} {B} {n} {o} {a} J true f h all here =
     let before : f ≡ state s B J (length J) = here ∙ state-answered s A B J n (length J) a h.adds h.next all in
-    let pends : pending_at s B n ≡ pending s A o.rank o.path n = sym (pending_at-next s A B n a h.adds) ∙ ap (pending_for s A n) h.line in
+    let pends : pending_at s B n ≡ pending s A o.rank o.path n = sym (pending_at-next s h.adds) ∙ ap (pending_for s A n) h.line in
     sym (state_in-push_last s (bytes_of s) B J n (length (J ++ n ∷ [])) (omega (arith, length_push J n))
     ∙ ap (λ (x : Option OpLine). effect_in s (bytes_of s) x (pending_at s B n) (state s B J (length J))) h.line
     ∙ ap (λ (q : List ℕ). effect_of s (bytes_of s) o.op q (state s B J (length J))) pends

@@ -10,7 +10,7 @@ returns-clause-run c =
     record {
       sized = sized;
       phases = turns.phase;
-      holds = λ _. Holds-first c.in_ok-states.states.items c.in_ok-answers.answers c.in_ok-turns.turns (λ n o is. (IsOpLine-from_job c.args.s.now n o c.shape.ensures.job is).rank) c.in_ok-paths.ensures
+      holds = λ _. Holds-first c.in_ok-states.states.items c.in_ok-answers.answers c.in_ok-turns.turns (λ n o is. (IsOpLine-from_job n o c.shape.ensures.job is).rank) c.in_ok-paths.ensures
           sized (rw (← c.shape.ensures.shape) c.in_ok-states.ensures.1)
           c.in_ok-answers.ensures.0 (omega (arith, c.in_ok-answers.ensures.1, c.lines.ensures.lines)) turns.job turns.places;
     }

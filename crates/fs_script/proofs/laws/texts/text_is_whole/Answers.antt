@@ -8,4 +8,4 @@ returns-clause-ends c R = text_ends R
 
 pub returns-clause-alone : goal.returns-clause-alone
 returns-clause-alone c told told' s R S more job all all' legal legal' same =
-    nothing_more R S more (IsPrintable-legal told s R job all legal) (IsPrintable-legal told' s S job all' legal') same
+    nothing_more R S more (IsPrintable-legal job all legal) (IsPrintable-legal job all' legal') same
