@@ -39,3 +39,5 @@ IsLegal-finished {s} {R} shape files so_far = record {
       record { answer = given.0; given = given.1; fits = (so_far.fit o.path).each n o given.0 is refl given.1 };
   files = files;
 }
+
+pub ruleset finished = (IsLegal-finished)

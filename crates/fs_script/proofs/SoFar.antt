@@ -118,3 +118,5 @@ IsLegalSoFar-commit {told} {s} {A} {B} {journals} {after} {n} {o} {a} here so_fa
     legal_here : IsLegalJournal s B o.path (journals o.path ++ n ∷ [])
     legal_here = IsLegalJournal-commit here.adds here.next (committed-own s B n o here.op ∙ commits)
         (subst (λ x. enabled_in x (λ op. is_enabled op (state s A (journals o.path) (length (journals o.path)))) ≡ true) (sym here.op) enabled) later (so_far.legal o.path)
+
+pub ruleset next_answers = (IsLegalSoFar-kept, IsLegalSoFar-commit)

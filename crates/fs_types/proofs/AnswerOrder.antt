@@ -129,3 +129,5 @@ same_from_answers ((i, a) ∷ xs) [] k hx hy h =
     cc
 same_from_answers ((i, a) ∷ xs) ((j, b) ∷ ys) k hx hy h =
     same_from_tails i j a b xs ys hx.1 hy.1 h (first_alike i j a b xs ys hx.1 hy.1 h) (λ rising alike. same_from_answers xs ys (suc i) hx.1 rising alike)
+
+pub ruleset answers_in_a_table = (answer_at-put_answer, IsRisingFrom-put_answer, IsRising-answers_given, put_answer-above, same_from_answers)

@@ -1,10 +1,7 @@
 -- The text reads as the same report with what follows and without.
 use Rattle.fs_script.proofs.LegalReports.{IsPrintable-legal}
-use Rattle.fs_script.proofs.TextRead.{text_ends, nothing_more}
+use Rattle.fs_script.proofs.TextRead.{nothing_more}
 use Rattle.fs_script.proofs.laws.texts.text_is_whole.Goals as goal
-
-pub returns-clause-ends : goal.returns-clause-ends
-returns-clause-ends c R = text_ends R
 
 pub returns-clause-alone : goal.returns-clause-alone
 returns-clause-alone c told told' s R S more job all all' legal legal' same =
