@@ -209,3 +209,7 @@ ArePaths-from_sort s vs ws are moved rising =
       named = λ p there. Names-from_Contains s p (subst (λ l. Contains l p) are (Contains-permutation (texts ws) (texts vs) p (IsPermutation-sym (texts vs) (texts ws) texts_moved) there));
       each = λ p named. Contains-permutation (texts vs) (texts ws) p texts_moved (subst (λ l. Contains l p) (sym are) (subst (Contains (paths_of s.lines)) named.on (Contains-from_op_at s named.line named.op named.is)));
     }
+
+pub ruleset added_paths = (with_path-there)
+pub ruleset named_paths = (paths_of-more)
+pub ruleset sorted_paths = (AreRising-from_sort, ArePaths-from_sort)

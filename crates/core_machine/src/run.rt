@@ -204,6 +204,7 @@ pub fn ready<'r>(run: &'r Run<'_>) -> &'r [Rank]
 }
 
 /// The journal of a path, empty where the script doesn't name it.
+#[tactic(auto, using(crate::proofs::Refines::Reads::kept_reads))]
 pub fn journal<'r>(run: &'r Run<'_>, p: &Path) -> &'r [LineNo]
     requires { IsRun run.now }
     ensures { result.now ≡ journal (moment run.now) p.now }
@@ -215,6 +216,7 @@ pub fn journal<'r>(run: &'r Run<'_>, p: &Path) -> &'r [LineNo]
 }
 
 /// The file of a path. Once memory ran out what is kept is open, and the answer is the same want.
+#[tactic(auto, using(crate::proofs::Refines::Reads::kept_reads))]
 pub fn file(run: &Run<'_>, p: &Path) -> Result<FileState, Want>
     requires { IsRun run.now }
     ensures { IfOk result (λ f. f ≡ file_state_of (file_now (moment run.now) p.now)) }

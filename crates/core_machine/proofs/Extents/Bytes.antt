@@ -78,3 +78,5 @@ pub get_or-bytes_of_extents-more : (s : Job) (xs : List Extent) (i k : ℕ) (x :
     → get_or (bytes_of_extents s (take (i + 1) xs)) k 0 ≡ byte_over s x k (get_or (bytes_of_extents s (take i xs)) k 0)
 get_or-bytes_of_extents-more s xs i k x are lt is =
     ap (λ (ys : List Extent). get_or (bytes_of_extents s ys) k 0) (more xs i x lt is) ∙ get_or-bytes_of_extents-push (take i xs) k (IsExtent-at s xs i x are lt is)
+
+pub ruleset extents_more = (IsExtent-at, length-bytes_of_extents-more, get_or-bytes_of_extents-more)

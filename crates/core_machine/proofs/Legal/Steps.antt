@@ -4,7 +4,7 @@ use Rattle.fs_types.proofs.Common.{Contains, refl, sym, ap, ◌∙◌, subst, su
 use Rattle.fs_types.proofs.Common.{get_or-set_other, length-set}
 use Rattle.fs_script.specs.Vocabulary.{Answer, answer_at, put_answer, op_at, phase, Answering, pending, commit_of, commit_by, journal_of}
 use Rattle.fs_script.specs.Vocabulary.{ArePaths, AddsAnswer, IsLegalSoFar, IsNextAnswer}
-use Rattle.core_machine.specs.Vocabulary.{Doing, Client, Moment, fresh_client, printed, answering, client_of, journal, with_entry, ready}
+use Rattle.core_machine.specs.Vocabulary.{Doing, Client, Moment, fresh_client, printed, answering, client_of, with_entry, ready}
 use Rattle.core_machine.specs.Vocabulary.{Event, Turn, event_at, after_turn, after_event, step, IsAnsweredUpTo, IsLegalMoment}
 use Rattle.fs_types.proofs.CallerLemmas.{IsRisingFrom-put_answer}
 use Rattle.fs_script.proofs.CallerLemmas.{pending-agree, AddsAnswer-put, AgreeBefore-next, IsLegalSoFar-kept, IsLegalSoFar-commit}

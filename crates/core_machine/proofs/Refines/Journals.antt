@@ -1,5 +1,5 @@
 -- The journals that are kept, as one path's state is changed.
-use Rattle.fs_types.proofs.Common.{◌≡◌, ℕ, zero, suc, ◌<◌, Bool, true, false, cond, List, [], ◌∷◌, ◌++◌, length, set, map, Some}
+use Rattle.fs_types.proofs.Common.{firsts-zip, length-map, ◌≡◌, ℕ, zero, suc, ◌<◌, Bool, true, false, cond, List, [], ◌∷◌, ◌++◌, length, set, map, Some}
 use Rattle.fs_types.proofs.Common.{refl, sym, ap, subst, ◌∙◌, arith, zip, slice_get, AllByRecursion, bytes_eq, nat_cmp, is_lt, slice_cmp}
 use Rattle.fs_types.proofs.Common.{option_map, map-set, set-get_or, same_Some, slice_get-map, get_or_from_slice_get}
 use Rattle.fs_script.specs.Vocabulary.{AreRising}
@@ -62,3 +62,5 @@ journals_of-set paths states p n i x y true rising at is grows =
 journals_of-set paths states p n i x y false rising at is grows =
     ap (zip paths) (map-set journal_kept states i y) ∙ ap (λ (j : List ℕ). zip paths (set (map journal_kept states) i j)) grows
     ∙ ap (zip paths) (set-same (map journal_kept states) i (journal_kept x) (slice_get-map_some journal_kept states i x is))
+
+pub ruleset paths_beside = (firsts-zip, length-map)

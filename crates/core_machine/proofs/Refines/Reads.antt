@@ -34,3 +34,5 @@ file-read {s} {paths} {states} {answers} {turns} i p x held at read =
 -- a path that isn't among them has no file
 pub file-absent : (s : Job) (paths : List (List ℕ)) (states : List PathState) (answers : Given) (turns : Places) (p : List ℕ) → (Contains paths p → ⊥) → None ≡ file_now (moment_of s paths states answers turns false) p
 file-absent s paths states answers turns p absent = ap (λ (j : List ℕ). state s (answer_at answers.list) j (length j)) (journal-absent paths states p absent)
+
+pub ruleset kept_reads = (journal-read, journal-absent, file-absent)

@@ -1,6 +1,6 @@
-use Rattle.fs_types.proofs.Common.{◌≡◌, ap, subst, IfOk}
+use Rattle.fs_types.proofs.Common.{◌≡◌, subst, IfOk}
 use Rattle.fs_script.specs.Vocabulary.{file_state_of}
-use Rattle.core_machine.proofs.Refines.Reads.{Stands-read, file-read, file-absent}
+use Rattle.core_machine.proofs.Refines.Reads.{Stands-read, file-read}
 use Rattle.core_machine.proofs.run.file.Goals as goal
 
 pub file_state-requires : goal.file_state-requires
@@ -14,8 +14,3 @@ returns-in-Some c =
     subst (λ f. IfOk c.file_state.result (λ x. x ≡ file_state_of f))
     (file-read c.in-Some.i c.args.p.now c.index.result.now (c.requires.holds c.if-run.false) c.in-Some.ensures.there c.index.ensures)
     c.file_state.ensures
-
-pub returns-in-None : goal.returns-in-None
-returns-in-None c =
-    let r = c.args.run.now in
-    ap file_state_of (file-absent r.script.now r.paths r.states.items r.answers r.turns c.args.p.now c.in-None.ensures.absent)
