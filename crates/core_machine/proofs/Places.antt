@@ -47,12 +47,14 @@ module _ {s : Job} {A : Answering} {r place n : ℕ} (t : StandsNext s A r place
         let same = same_Some j n (sym at ∙ ap (slice_get (program s r)) is ∙ t.here) in
         ap (λ i. is_some (B i)) same ∙ ap is_some adds.added ∙ sym (lt-ltb k (place + 1) (omega arith))
     | inr other ↦
-        let another : j ≢ n = λ e. other (passing-places (λ i. is_of_rank r (op_at s i)) 2 (length s.lines) k place j at (t.here ∙ ap Some (sym e))) in
+        let another : j ≢ n = λ e. other (passing-places (λ i. is_of_rank r (op_at s i)) 2 (length s.lines) k place j at (t.here
+        ∙ ap Some (sym e))) in
         ap is_some (adds.others j another) ∙ t.upto k j at ∙ grind (arith, nat_tests)
   ]
 
 -- another client's place stays
-pub upto-other : (s : Job) {A B : Answering} (q : ℕ) {n : ℕ} (place : ℕ) (o : OpLine) {a : Answer} → AddsAnswer A n a B → op_at s n ≡ Some o → o.rank ≢ q → IsAnsweredUpTo s A q place → IsAnsweredUpTo s B q place
+pub upto-other : (s : Job) {A B : Answering} (q : ℕ) {n : ℕ} (place : ℕ) (o : OpLine) {a : Answer} → AddsAnswer A n a B → op_at s n ≡ Some o
+    → o.rank ≢ q → IsAnsweredUpTo s A q place → IsAnsweredUpTo s B q place
 upto-other s q {n} place o adds is other upto k j at =
     let op = program-op s q k j at in
     let another : j ≢ n = λ e. other (ap (λ l. l.rank) (same_Some o op.0 (sym is ∙ ap (op_at s) (sym e) ∙ op.1)) ∙ op.2) in

@@ -34,7 +34,8 @@ pub record Follows (s : Job) (n : ℕ) (op : Op) (x : OwnedPath) (k : ClientPath
   pub opened : l.is_open ≡ (opens op a || k.is_open)
   pub pending : pending_lines l ≡ after_answer op a n (pending_lines k)
   pub version : l.noted.version ≡ at_least k.noted.version (version_of a)
-  pub within : k.noted.version ≤ length x.journal.items → x.board.version ≤ length x.journal.items → l.noted.version ≤ length y.journal.items
+  pub within : k.noted.version ≤ length x.journal.items → x.board.version ≤ length x.journal.items
+      → l.noted.version ≤ length y.journal.items
   -- whatever the versions' files are, what was noted goes on saying it
   pub known : (at : ℕ → Known) → Knows s at y k → known_from l.noted ≡ at l.noted.version
 

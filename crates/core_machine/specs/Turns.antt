@@ -1,5 +1,6 @@
 -- Whose turn it may be: how far each client has come, and the phase that the run is in.
-use Rattle.std.specs.Prelude.{◌≡◌, ℕ, ◌≤◌, ◌<◌, ◌==◌, Bool, false, List, [], filter, slice_index, slice_set, ◌+◌, Option, Some, None, slice_get}
+use Rattle.std.specs.Prelude.{◌≡◌, ℕ, ◌≤◌, ◌<◌, ◌==◌, Bool, false, List, [], filter, slice_index, slice_set, ◌+◌, Option, Some, None}
+use Rattle.std.specs.Prelude.{slice_get}
 use Rattle.std.specs.List.{range_with_len}
 use Rattle.fs_script.specs.Vocabulary.{Job, phase, program}
 

@@ -8,7 +8,8 @@ use Rattle.fs_script.specs.Vocabulary.{committed, AgreeBefore, AddsAnswer}
 use Rattle.fs_types.proofs.CallerLemmas.{answer_at-put_answer}
 
 -- agreement before a line is agreement before each earlier one
-pub AgreeBefore-earlier : (s : Job) (r : ℕ) (p : List ℕ) (A B : Answering) (m n : ℕ) → m ≤ n → AgreeBefore s r p A B n → AgreeBefore s r p A B m
+pub AgreeBefore-earlier : (s : Job) (r : ℕ) (p : List ℕ) (A B : Answering) (m n : ℕ) → m ≤ n → AgreeBefore s r p A B n
+    → AgreeBefore s r p A B m
 AgreeBefore-earlier s r p A B m n le h k below own = h k (omega arith) own
 
 -- so answers that agree before a line make the same of the same
@@ -17,31 +18,39 @@ pub over_answers-agree : {X : Type 0} (step : Op → Answer → ℕ → X → X)
 over_answers-agree step x s r p A B zero h = refl
 over_answers-agree step x s r p A B (suc n) h =
     one (own_at s r p n) (h n (omega arith))
-    ∙ ap (one_more step (own_at s r p n) (B n) n) (over_answers-agree step x s r p A B n (AgreeBefore-earlier s r p A B n (suc n) (omega arith) h))
+    ∙ ap (one_more step (own_at s r p n) (B n) n) (over_answers-agree step x s r p A B n
+    (AgreeBefore-earlier s r p A B n (suc n) (omega arith) h))
   where
-    one : (o : Option Op) → (IsSome o → A n ≡ B n) → one_more step o (A n) n (over_answers step x s A r p n) ≡ one_more step o (B n) n (over_answers step x s A r p n)
+    one : (o : Option Op) → (IsSome o → A n ≡ B n) → one_more step o (A n) n (over_answers step x s A r p n)
+        ≡ one_more step o (B n) n (over_answers step x s A r p n)
     one None same = refl
     one (Some op) same = ap (λ a. one_more step (Some op) a n (over_answers step x s A r p n)) (same refl)
 
-pub pending-agree : (s : Job) (r : ℕ) (p : List ℕ) (A B : Answering) (n : ℕ) → AgreeBefore s r p A B n → pending s A r p n ≡ pending s B r p n
+pub pending-agree : (s : Job) (r : ℕ) (p : List ℕ) (A B : Answering) (n : ℕ) → AgreeBefore s r p A B n
+    → pending s A r p n ≡ pending s B r p n
 pending-agree = over_answers-agree after_answer []
 
 -- the effect of a line reads no answer but for what is pending at it
-pub effect-agree : {X : Type 0} (s : Job) (c : Cells X) (A B : Answering) (n : ℕ) (f : File X) → pending_at s A n ≡ pending_at s B n → effect s c A n f ≡ effect s c B n f
+pub effect-agree : {X : Type 0} (s : Job) (c : Cells X) (A B : Answering) (n : ℕ) (f : File X) → pending_at s A n ≡ pending_at s B n
+    → effect s c A n f ≡ effect s c B n f
 effect-agree s c A B n f h = ap (λ q. effect_in s c (op_at s n) q f) h
 
-commit_in-agree : (s : Job) (A B : Answering) (p : List ℕ) (n : ℕ) (o : Option OpLine) → pending_for s A n o ≡ pending_for s B n o → A n ≡ B n → commit_in s A p n o ≡ commit_in s B p n o
+commit_in-agree : (s : Job) (A B : Answering) (p : List ℕ) (n : ℕ) (o : Option OpLine) → pending_for s A n o ≡ pending_for s B n o
+    → A n ≡ B n → commit_in s A p n o ≡ commit_in s B p n o
 commit_in-agree s A B p n None h e = refl
 commit_in-agree s A B p n (Some o) h e =
-    ap (λ q. cond (bytes_eq o.path p) (commit_by o.op q (A n)) None) h ∙ ap (λ a. cond (bytes_eq o.path p) (commit_by o.op (pending s B o.rank o.path n) a) None) e
+    ap (λ q. cond (bytes_eq o.path p) (commit_by o.op q (A n)) None) h
+    ∙ ap (λ a. cond (bytes_eq o.path p) (commit_by o.op (pending s B o.rank o.path n) a) None) e
 
 -- whether a line is an accepted committing line, and of which version
-pub committed-agree : (s : Job) (A B : Answering) (p : List ℕ) (n : ℕ) → pending_at s A n ≡ pending_at s B n → A n ≡ B n → committed s A p n ≡ committed s B p n
+pub committed-agree : (s : Job) (A B : Answering) (p : List ℕ) (n : ℕ) → pending_at s A n ≡ pending_at s B n → A n ≡ B n
+    → committed s A p n ≡ committed s B p n
 committed-agree s A B p n h e = commit_in-agree s A B p n (op_at s n) h e
 
 commit_in-unanswered : (s : Job) (A : Answering) (p : List ℕ) (n : ℕ) (o : Option OpLine) → A n ≡ None → commit_in s A p n o ≡ None
 commit_in-unanswered s A p n None e = refl
-commit_in-unanswered s A p n (Some o) e = cond_both (bytes_eq o.path p) (commit_by o.op (pending s A o.rank o.path n) (A n)) None (λ x. x ≡ None) (λ _. ap (λ a. commit_by o.op (pending s A o.rank o.path n) a) e) (λ _. refl)
+commit_in-unanswered s A p n (Some o) e = cond_both (bytes_eq o.path p) (commit_by o.op (pending s A o.rank o.path n) (A n)) None
+    (λ x. x ≡ None) (λ _. ap (λ a. commit_by o.op (pending s A o.rank o.path n) a) e) (λ _. refl)
 
 -- a line without an answer commits nothing
 pub committed-unanswered : (s : Job) (A : Answering) (p : List ℕ) (n : ℕ) → A n ≡ None → committed s A p n ≡ None

@@ -116,7 +116,8 @@ two_pending = refl
 later_over_earlier : state overlapping overlapping_answers overlapping_journal 2 ≡ Some (record { cells = codes "helxyz"; frozen = false })
 later_over_earlier = refl
 
-gap_of_zeros : state overlapping overlapping_answers overlapping_journal 3 ≡ Some (record { cells = codes "helxyz" ++ 0 ∷ 0 ∷ 0 ∷ 0 ∷ codes "!"; frozen = false })
+gap_of_zeros : state overlapping overlapping_answers overlapping_journal 3
+    ≡ Some (record { cells = codes "helxyz" ++ 0 ∷ 0 ∷ 0 ∷ 0 ∷ codes "!"; frozen = false })
 gap_of_zeros = refl
 
 -- the barrier stands before line 7
@@ -140,13 +141,17 @@ lines_of_operations = refl
 program_of_another : program overlapping 1 ≡ []
 program_of_another = refl
 
-gap_shown : Fits [] overlapping overlapping_answers overlapping_journal 10 (on_a (ops.Read 4 100)) (answers.Shown 3 7 (bodies.Hex (codes "yz" ++ 0 ∷ 0 ∷ 0 ∷ 0 ∷ codes "!")))
+gap_shown : Fits [] overlapping overlapping_answers overlapping_journal 10 (on_a (ops.Read 4 100))
+    (answers.Shown 3 7 (bodies.Hex (codes "yz" ++ 0 ∷ 0 ∷ 0 ∷ 0 ∷ codes "!")))
 gap_shown = record {
   opened = refl;
   version = record {
     front = omega arith;
     length = omega arith;
-    no_later = (record { phase = omega arith; own = λ _. omega arith }, (record { phase = omega arith; own = λ _. omega arith }, (record { phase = omega arith; own = λ _. omega arith }, tt)));
+    no_later = (
+      record { phase = omega arith; own = λ _. omega arith },
+      (record { phase = omega arith; own = λ _. omega arith }, (record { phase = omega arith; own = λ _. omega arith }, tt)),
+    );
   };
   answer = record { count = refl; same = λ _. refl };
 }

@@ -28,7 +28,4 @@ unfolding md5
 AllBytes-md5 bytes = AllBytes-digest_bytes _ 4
 
 pub IsDigest-md5 : (bytes : List ℕ) → IsDigest (md5 bytes)
-IsDigest-md5 bytes = record {
-  size = length-md5 bytes;
-  bytes = recursion_from_All (λ b. b < 256) (md5 bytes) (AllBytes-md5 bytes);
-}
+IsDigest-md5 bytes = record { size = length-md5 bytes; bytes = recursion_from_All (λ b. b < 256) (md5 bytes) (AllBytes-md5 bytes) }

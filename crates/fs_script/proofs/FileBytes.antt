@@ -33,7 +33,7 @@ module _ (s : Job) (job : IsJob s) where
   AllBytes-brought_in (Some l) each = AllBytes-brought l.op (each l refl).op
 
   AllBytes-payload : (n : ℕ) → AllBytes (payload s n)
-  AllBytes-payload n = AllBytes-brought_in (op_at s n) (λ l is. IsOpLine-from_job n l job is)
+  AllBytes-payload n = AllBytes-brought_in (op_at s n) (λ l is. IsOpLine-from_job s n l job is)
 
 -- ---- files
 
@@ -70,8 +70,7 @@ module _ (s : Job) (job : IsJob s) where
       cond_both (is_enabled o.op f) (makes s (bytes_of s) o.op q f) f IsWithinLimits
       (λ _. IsWithinLimits-makes o.op q f within) (λ _. within)
 
-  IsWithinLimits-after_all : (A : Answering) (J : List ℕ) (f : File ℕ)
-      → IsWithinLimits f → IsWithinLimits (after_all s (bytes_of s) A J f)
+  IsWithinLimits-after_all : (A : Answering) (J : List ℕ) (f : File ℕ) → IsWithinLimits f → IsWithinLimits (after_all s (bytes_of s) A J f)
   IsWithinLimits-after_all A [] f within = within
   IsWithinLimits-after_all A (n ∷ J) f within =
       let next = IsWithinLimits-effect_in (op_at s n) (pending_at s A n) f within in

@@ -19,10 +19,13 @@ op_lines-contains s n o is =
 -- ---- the answers
 
 -- a line at place k of the list has an answer
-answer_at-listed : (xs : List (ℕ × Answer)) (n k : ℕ) → k < length (map (λ (a : ℕ × Answer). a.0) xs) → slice_index_or (map (λ (a : ℕ × Answer). a.0) xs) k n ≡ n → IsSome (answer_at xs n)
+answer_at-listed : (xs : List (ℕ × Answer)) (n k : ℕ) → k < length (map (λ (a : ℕ × Answer). a.0) xs)
+    → slice_index_or (map (λ (a : ℕ × Answer). a.0) xs) k n ≡ n → IsSome (answer_at xs n)
 answer_at-listed [] n k below same = absurd (omega arith)
-answer_at-listed (x ∷ xs) n zero below same = cond_both (x.0 == n) (Some x.1) (answer_at xs n) (λ a. IsSome a) (λ _. refl) (λ other. absurd (eqb-false x.0 n other same))
-answer_at-listed (x ∷ xs) n (suc k) below same = cond_both (x.0 == n) (Some x.1) (answer_at xs n) (λ a. IsSome a) (λ _. refl) (λ _. answer_at-listed xs n k (omega arith) same)
+answer_at-listed (x ∷ xs) n zero below same = cond_both (x.0 == n) (Some x.1) (answer_at xs n) (λ a. IsSome a) (λ _. refl)
+    (λ other. absurd (eqb-false x.0 n other same))
+answer_at-listed (x ∷ xs) n (suc k) below same = cond_both (x.0 == n) (Some x.1) (answer_at xs n) (λ a. IsSome a) (λ _. refl)
+    (λ _. answer_at-listed xs n k (omega arith) same)
 
 -- a report of the right shape answers each operation
 answered-in_report : {s : Job} {R : Report} (n : ℕ) (o : OpLine) → HasShape s R → op_at s n ≡ Some o → IsSome (answers_of R n)
@@ -30,7 +33,8 @@ answered-in_report {s} {R} n o shape is =
     let there = subst (λ xs. Contains xs n) (sym shape.answers) (op_lines-contains s n o is) in
     answer_at-listed R.answers n there.0 there.1 there.2
 
-pub IsLegal-finished : {told : List ℕ} {s : Job} {R : Report} → HasShape s R → FilesAreStates s R → IsLegalSoFar told s (answers_of R) (journal_of R.journals) → IsLegal s R told
+pub IsLegal-finished : {told : List ℕ} {s : Job} {R : Report} → HasShape s R → FilesAreStates s R
+    → IsLegalSoFar told s (answers_of R) (journal_of R.journals) → IsLegal s R told
 IsLegal-finished {s} {R} shape files so_far = record {
   shape = shape;
   journals = so_far.legal;

@@ -30,7 +30,8 @@ seen-le s A r p (suc n) k each =
 
 -- where no answer before the line printed more than the journal's length, its front isn't more
 pub front-le-length : (s : Job) (A : Answering) (J : List ℕ) (r : ℕ) (p : List ℕ) (n : ℕ)
-    → ((m : ℕ) (a : Answer) (v : ℕ) → m < n → IsSome (own_at s r p m) → A m ≡ Some a → version_of a ≡ Some v → v ≤ length J) → front s A J r p n ≤ length J
+    → ((m : ℕ) (a : Answer) (v : ℕ) → m < n → IsSome (own_at s r p m) → A m ≡ Some a → version_of a ≡ Some v → v ≤ length J)
+    → front s A J r p n ≤ length J
 front-le-length s A J r p n each =
     let saw = seen-le s A r p n (length J) each in
     let earlier = of_earlier_phases-le-length s n J in
@@ -38,7 +39,8 @@ front-le-length s A J r p n each =
 
 -- ---- where every answered line of the path fits the journal
 
-own_op-is : {C : Type 0} (r : ℕ) (p : List ℕ) (o : Option OpLine) (op : Op) → own_op r p o ≡ Some op → ((l : OpLine) → o ≡ Some l → l.rank ≡ r → l.path ≡ p → l.op ≡ op → C) → C
+own_op-is : {C : Type 0} (r : ℕ) (p : List ℕ) (o : Option OpLine) (op : Op) → own_op r p o ≡ Some op
+    → ((l : OpLine) → o ≡ Some l → l.rank ≡ r → l.path ≡ p → l.op ≡ op → C) → C
 own_op-is r p None op h k = absurd (none-some op h)
 own_op-is r p (Some l) op h k =
     let parts = cond_some (l.rank == r && bytes_eq l.path p) l.op op h in
@@ -55,13 +57,16 @@ versions-le {s} {A} {J} r {p} m a v fit own given prints =
     (MatchOption-at_some ⊤ (λ w. IsInReach s A J m o w) v prints fits.version).length)
 
 -- so a line's front isn't either
-pub front-le-length_fit : {told : List ℕ} {s : Job} {A : Answering} {J : List ℕ} (r : ℕ) {p : List ℕ} (n : ℕ) → AllFit told s A p J → front s A J r p n ≤ length J
-front-le-length_fit {told} {s} {A} {J} r {p} n fit = front-le-length s A J r p n (λ m a v before own given prints. versions-le r m a v fit own given prints)
+pub front-le-length_fit : {told : List ℕ} {s : Job} {A : Answering} {J : List ℕ} (r : ℕ) {p : List ℕ} (n : ℕ) → AllFit told s A p J
+    → front s A J r p n ≤ length J
+front-le-length_fit {told} {s} {A} {J} r {p} n fit = front-le-length s A J r p n
+    (λ m a v before own given prints. versions-le r m a v fit own given prints)
 
 -- ---- the versions that a line may print as it is answered
 
 -- no line of the journal is a later one
-pub IsNoLater-now : {s : Job} {A : Answering} {p : List ℕ} {J : List ℕ} {n : ℕ} (r : ℕ) → IsLegalJournal s A p J → ComesNext s A n → rank_at s n ≡ Some r → IsOfNoEarlierPhase s n J → AllByRecursion (λ m. IsNoLater s r n m) J
+pub IsNoLater-now : {s : Job} {A : Answering} {p : List ℕ} {J : List ℕ} {n : ℕ} (r : ℕ) → IsLegalJournal s A p J → ComesNext s A n
+    → rank_at s n ≡ Some r → IsOfNoEarlierPhase s n J → AllByRecursion (λ m. IsNoLater s r n m) J
 IsNoLater-now {s} {A} {p} {J} {n} r legal next mine later = AllByRecursion-from_get (λ m. IsNoLater s r n m) J (λ k m at. record {
   phase = AllByRecursion-at (λ j. phase s j ≤ phase s n) J k m later at;
   own = λ of_rank.
@@ -71,7 +76,8 @@ IsNoLater-now {s} {A} {p} {J} {n} r legal next mine later = AllByRecursion-from_
 })
 
 -- each from its front up to the length of the journal
-pub IsInReach-now : {s : Job} {A : Answering} {J : List ℕ} {n : ℕ} (o : OpLine) (v : ℕ) → IsLegalJournal s A o.path J → ComesNext s A n → op_at s n ≡ Some o → IsOfNoEarlierPhase s n J
+pub IsInReach-now : {s : Job} {A : Answering} {J : List ℕ} {n : ℕ} (o : OpLine) (v : ℕ) → IsLegalJournal s A o.path J → ComesNext s A n
+    → op_at s n ≡ Some o → IsOfNoEarlierPhase s n J
     → front s A J o.rank o.path n ≤ v → v ≤ length J → IsInReach s A J n o v
 IsInReach-now {s} {A} {J} {n} o v legal next is later from to = record {
   front = from;
@@ -80,7 +86,8 @@ IsInReach-now {s} {A} {J} {n} o v legal next is later from to = record {
 }
 
 -- and the version that it makes itself, in the journal with the line at its end
-pub IsInReach-made : {s : Job} {A : Answering} {J : List ℕ} {n : ℕ} (o : OpLine) → IsLegalJournal s A o.path J → ComesNext s A n → op_at s n ≡ Some o → IsOfNoEarlierPhase s n J
+pub IsInReach-made : {s : Job} {A : Answering} {J : List ℕ} {n : ℕ} (o : OpLine) → IsLegalJournal s A o.path J → ComesNext s A n
+    → op_at s n ≡ Some o → IsOfNoEarlierPhase s n J
     → front s A J o.rank o.path n ≤ length J → IsInReach s A (J ++ n ∷ []) n o (suc (length J))
 IsInReach-made {s} {A} {J} {n} o legal next is later from =
     let size = length_push J n in
@@ -89,5 +96,6 @@ IsInReach-made {s} {A} {J} {n} o legal next is later from =
     record {
       front = omega arith;
       length = omega arith;
-      no_later = AllByRecursion-take (λ m. IsNoLater s o.rank n m) (suc (length J)) (J ++ n ∷ []) (AllByRecursion-push (λ m. IsNoLater s o.rank n m) J n before (record { phase = omega arith; own = λ _. omega arith }));
+      no_later = AllByRecursion-take (λ m. IsNoLater s o.rank n m) (suc (length J)) (J ++ n ∷ [])
+          (AllByRecursion-push (λ m. IsNoLater s o.rank n m) J n before (record { phase = omega arith; own = λ _. omega arith }));
     }

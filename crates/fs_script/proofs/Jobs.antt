@@ -10,7 +10,8 @@ at_head h lines.Note o is e = absurd is
 at_head h lines.Barrier o is e = absurd is
 at_head h (lines.Op p) o is e = subst (IsOpLine h) (same_Some p o e) is
 
-at_place : (h : Shape) (ls : List Line) (k : ℕ) (o : OpLine) → AllByRecursion (IsLine h) ls → operation (slice_get ls k) ≡ Some o → IsOpLine h o
+at_place : (h : Shape) (ls : List Line) (k : ℕ) (o : OpLine) → AllByRecursion (IsLine h) ls → operation (slice_get ls k) ≡ Some o
+    → IsOpLine h o
 at_place h [] k o all e = absurd cc
 at_place h (l ∷ ls) zero o all e = at_head h l o all.0 e
 at_place h (l ∷ ls) (suc k) o all e = at_place h ls k o all.1 e
@@ -21,8 +22,8 @@ at_line s (suc zero) o all e = absurd cc
 at_line s (suc (suc k)) o all e = at_place s.shape s.lines k o all e
 
 -- an operation of a job within the limits is within them
-pub IsOpLine-from_job : {s : Job} (n : ℕ) (o : OpLine) → IsJob s → op_at s n ≡ Some o → IsOpLine s.shape o
-IsOpLine-from_job {s} n o job e = at_line s n o job.lines e
+pub IsOpLine-from_job : (s : Job) (n : ℕ) (o : OpLine) → IsJob s → op_at s n ≡ Some o → IsOpLine s.shape o
+IsOpLine-from_job s n o job e = at_line s n o job.lines e
 
 slice_get-operation : (ls : List Line) (k : ℕ) (o : OpLine) → operation (slice_get ls k) ≡ Some o → k < length ls
 slice_get-operation [] k o h = absurd cc

@@ -22,11 +22,13 @@ own_op-rank r p (Some o) h =
     ]
 
 -- before the new line, nothing of its client changes
-pub AgreeBefore-next : (s : Job) (r : ℕ) (p : List ℕ) {A B : Answering} (m : ℕ) {n : ℕ} {a : Answer} → AddsAnswer A n a B → m ≤ n → AgreeBefore s r p A B m
+pub AgreeBefore-next : (s : Job) (r : ℕ) (p : List ℕ) {A B : Answering} (m : ℕ) {n : ℕ} {a : Answer} → AddsAnswer A n a B → m ≤ n
+    → AgreeBefore s r p A B m
 AgreeBefore-next s r p m adds le k below own = sym (adds.others k (λ e. omega arith))
 
 -- before a line that was answered, nothing of its client changes
-pub AgreeBefore-answered : {s : Job} (p : List ℕ) {A B : Answering} (m : ℕ) {n : ℕ} {a : Answer} (b : Answer) (r : ℕ) → AddsAnswer A n a B → ComesNext s A n → A m ≡ Some b → rank_at s m ≡ Some r → AgreeBefore s r p A B m
+pub AgreeBefore-answered : {s : Job} (p : List ℕ) {A B : Answering} (m : ℕ) {n : ℕ} {a : Answer} (b : Answer) (r : ℕ) → AddsAnswer A n a B
+    → ComesNext s A n → A m ≡ Some b → rank_at s m ≡ Some r → AgreeBefore s r p A B m
 AgreeBefore-answered {s} p m {n} b r adds next answered of_rank k below own =
     sym (adds.others k (λ e.
     let mine : rank_at s n ≡ Some r = subst (λ j. rank_at s j ≡ Some r) e (own_op-rank r p (op_at s k) own) in
@@ -37,28 +39,35 @@ AgreeBefore-answered {s} p m {n} b r adds next answered of_rank k below own =
 answered≢next : {s : Job} {A : Answering} (m : ℕ) {n : ℕ} (b : Answer) → ComesNext s A n → A m ≡ Some b → m ≢ n
 answered≢next {A} m b next answered e = none-some b (sym next.fresh ∙ (ap A (sym e) ∙ answered))
 
-pending_for-answered : (s : Job) (A B : Answering) (m : ℕ) (o : Option OpLine) → ((r : ℕ) (p : List ℕ) → rank_in o ≡ Some r → AgreeBefore s r p A B m) → pending_for s A m o ≡ pending_for s B m o
+pending_for-answered : (s : Job) (A B : Answering) (m : ℕ) (o : Option OpLine)
+    → ((r : ℕ) (p : List ℕ) → rank_in o ≡ Some r → AgreeBefore s r p A B m) → pending_for s A m o ≡ pending_for s B m o
 pending_for-answered s A B m None h = refl
 pending_for-answered s A B m (Some o) h = pending-agree s o.rank o.path A B m (h o.rank o.path refl)
 
 -- what was pending at a line that was answered stays so
-pub pending_at-answered : {s : Job} {A B : Answering} (m : ℕ) {n : ℕ} {a : Answer} (b : Answer) → AddsAnswer A n a B → ComesNext s A n → A m ≡ Some b → pending_at s A m ≡ pending_at s B m
-pending_at-answered {s} {A} {B} m {n} {a} b adds next answered = pending_for-answered s A B m (op_at s m) (λ r p of_rank. AgreeBefore-answered p m b r adds next answered of_rank)
+pub pending_at-answered : {s : Job} {A B : Answering} (m : ℕ) {n : ℕ} {a : Answer} (b : Answer) → AddsAnswer A n a B → ComesNext s A n
+    → A m ≡ Some b → pending_at s A m ≡ pending_at s B m
+pending_at-answered {s} {A} {B} m {n} {a} b adds next answered =
+    pending_for-answered s A B m (op_at s m) (λ r p of_rank. AgreeBefore-answered p m b r adds next answered of_rank)
 
 -- what was pending at a line up to the new one stays so
-pub pending_at-until : (s : Job) {A B : Answering} (m : ℕ) {n : ℕ} {a : Answer} → AddsAnswer A n a B → m ≤ n → pending_at s A m ≡ pending_at s B m
-pending_at-until s {A} {B} m {n} {a} adds upto = pending_for-answered s A B m (op_at s m) (λ r p of_rank. AgreeBefore-next s r p m adds upto)
+pub pending_at-until : (s : Job) {A B : Answering} (m : ℕ) {n : ℕ} {a : Answer} → AddsAnswer A n a B → m ≤ n
+    → pending_at s A m ≡ pending_at s B m
+pending_at-until s {A} {B} m {n} {a} adds upto = pending_for-answered s A B m (op_at s m)
+    (λ r p of_rank. AgreeBefore-next s r p m adds upto)
 
 pub pending_at-next : (s : Job) {A B : Answering} {n : ℕ} {a : Answer} → AddsAnswer A n a B → pending_at s A n ≡ pending_at s B n
 pending_at-next s {A} {B} {n} {a} adds = pending_at-until s n adds (omega arith)
 
 -- what a line that was answered committed stays so
-pub committed-answered : {s : Job} {A B : Answering} (p : List ℕ) (m : ℕ) {n : ℕ} {a : Answer} (b : Answer) → AddsAnswer A n a B → ComesNext s A n → A m ≡ Some b → committed s A p m ≡ committed s B p m
+pub committed-answered : {s : Job} {A B : Answering} (p : List ℕ) (m : ℕ) {n : ℕ} {a : Answer} (b : Answer) → AddsAnswer A n a B
+    → ComesNext s A n → A m ≡ Some b → committed s A p m ≡ committed s B p m
 committed-answered {s} {A} {B} p m {n} {a} b adds next answered =
     committed-agree s A B p m (pending_at-answered m b adds next answered) (sym (adds.others m (answered≢next m b next answered)))
 
 -- so it is for every other line, answered or not
-pub committed-other : {s : Job} {A B : Answering} (p : List ℕ) (m : ℕ) {n : ℕ} {a : Answer} → AddsAnswer A n a B → ComesNext s A n → m ≢ n → committed s A p m ≡ committed s B p m
+pub committed-other : {s : Job} {A B : Answering} (p : List ℕ) (m : ℕ) {n : ℕ} {a : Answer} → AddsAnswer A n a B → ComesNext s A n → m ≢ n
+    → committed s A p m ≡ committed s B p m
 committed-other {s} {A} {B} p m {n} {a} adds next other = by (A m) refl where
   by : (x : Option Answer) → A m ≡ x → committed s A p m ≡ committed s B p m
   by None e = committed-unanswered s A p m e ∙ sym (committed-unanswered s B p m (adds.others m other ∙ e))
@@ -73,13 +82,16 @@ answered_from-commit s A p m v h = by (A m) refl where
   by (Some b) e = ap is_some e
 
 -- each of them was answered
-pub answered-in_journal : {s : Job} {A : Answering} {p : List ℕ} {J : List ℕ} (k m : ℕ) → IsLegalJournal s A p J → slice_get J k ≡ Some m → IsSome (A m)
+pub answered-in_journal : {s : Job} {A : Answering} {p : List ℕ} {J : List ℕ} (k m : ℕ) → IsLegalJournal s A p J → slice_get J k ≡ Some m
+    → IsSome (A m)
 answered-in_journal {s} {A} {p} k m legal at = answered_from-commit s A p m (suc k) (legal.entries k m at).committed
 
 -- nothing pending at the lines of a legal journal changes
-pub pending_at-in_journal : {s : Job} {A B : Answering} {p : List ℕ} {J : List ℕ} {n : ℕ} {a : Answer} → AddsAnswer A n a B → ComesNext s A n → IsLegalJournal s A p J
+pub pending_at-in_journal : {s : Job} {A B : Answering} {p : List ℕ} {J : List ℕ} {n : ℕ} {a : Answer} → AddsAnswer A n a B
+    → ComesNext s A n → IsLegalJournal s A p J
     → SamePending s A B J
-pending_at-in_journal {s} {A} {B} {p} {J} {n} {a} adds next legal = AllByRecursion-from_get (λ m. pending_at s A m ≡ pending_at s B m) J (λ k m at.
+pending_at-in_journal {s} {A} {B} {p} {J} {n} {a} adds next legal =
+    AllByRecursion-from_get (λ m. pending_at s A m ≡ pending_at s B m) J (λ k m at.
     let given = some_of (A m) (answered-in_journal k m legal at) in
     pending_at-answered m given.0 adds next given.1)
 
@@ -92,7 +104,8 @@ IsLegalJournal-none s A p none = record {
 
 -- ---- an answer that commits nothing to the path
 
-IsLegalEntry-same : {s : Job} {A : Answering} (B : Answering) {p : List ℕ} {J : List ℕ} {k m : ℕ} → committed s A p m ≡ committed s B p m → state s A J k ≡ state s B J k → IsLegalEntry s A p J k m → IsLegalEntry s B p J k m
+IsLegalEntry-same : {s : Job} {A : Answering} (B : Answering) {p : List ℕ} {J : List ℕ} {k m : ℕ} → committed s A p m ≡ committed s B p m
+    → state s A J k ≡ state s B J k → IsLegalEntry s A p J k m → IsLegalEntry s B p J k m
 IsLegalEntry-same {s} B {m} commits states legal = record {
   committed = sym commits ∙ legal.committed;
   once = legal.once;
@@ -101,31 +114,38 @@ IsLegalEntry-same {s} B {m} commits states legal = record {
   enabled = subst (λ f. enabled_in (op_at s m) (λ op. is_enabled op f) ≡ true) states legal.enabled;
 }
 
-pub IsLegalJournal-kept : {s : Job} {A B : Answering} {p : List ℕ} {J : List ℕ} {n : ℕ} {a : Answer} → AddsAnswer A n a B → ComesNext s A n → committed s B p n ≡ None → IsLegalJournal s A p J → IsLegalJournal s B p J
+pub IsLegalJournal-kept : {s : Job} {A B : Answering} {p : List ℕ} {J : List ℕ} {n : ℕ} {a : Answer} → AddsAnswer A n a B → ComesNext s A n
+    → committed s B p n ≡ None → IsLegalJournal s A p J → IsLegalJournal s B p J
 IsLegalJournal-kept {s} {A} {B} {p} {J} {n} {a} adds next none legal =
     let same = pending_at-in_journal adds next legal in
     record {
       entries = λ k m at.
           let given = some_of (A m) (answered-in_journal k m legal at) in
-          IsLegalEntry-same B (committed-answered p m given.0 adds next given.1) (state_in-agree s (bytes_of s) A B J k same) (legal.entries k m at);
-      whole = λ m v h. legal.whole m v (committed-other p m adds next (λ e. none-some v (sym none ∙ (ap (committed s B p) (sym e) ∙ h))) ∙ h);
+          IsLegalEntry-same B (committed-answered p m given.0 adds next given.1) (state_in-agree s (bytes_of s) A B J k same)
+          (legal.entries k m at);
+      whole = λ m v h. legal.whole m v (committed-other p m adds next (λ e. none-some v (sym none ∙ (ap (committed s B p) (sym e) ∙ h)))
+          ∙ h);
     }
 
 -- ---- an answer that commits its line to the path
 
 -- an old entry in the longer journal
-IsLegalEntry-longer : {s : Job} {A : Answering} {p : List ℕ} {J : List ℕ} (n : ℕ) {k m : ℕ} → k < length J → m ≢ n → IsLegalEntry s A p J k m → IsLegalEntry s A p (J ++ n ∷ []) k m
+IsLegalEntry-longer : {s : Job} {A : Answering} {p : List ℕ} {J : List ℕ} (n : ℕ) {k m : ℕ} → k < length J → m ≢ n
+    → IsLegalEntry s A p J k m → IsLegalEntry s A p (J ++ n ∷ []) k m
 IsLegalEntry-longer {s} {A} {J} n {k} {m} below other legal = record {
   committed = legal.committed;
   once = λ i at. elim (slice_get-push_cases J n i m at) [ inl old ↦ legal.once i old | inr new ↦ absurd (other new.1) ];
   rising = λ i j before at mine. legal.rising i j before (slice_get-push_below J n i j (omega arith) at) mine;
   phases = λ i j before at. legal.phases i j before (slice_get-push_below J n i j (omega arith) at);
-  enabled = subst (λ f. enabled_in (op_at s m) (λ op. is_enabled op f) ≡ true) (sym (state_in-push s (bytes_of s) A J n k (omega arith))) legal.enabled;
+  enabled = subst (λ f. enabled_in (op_at s m) (λ op. is_enabled op f) ≡ true) (sym (state_in-push s (bytes_of s) A J n k (omega arith)))
+      legal.enabled;
 }
 
 -- the new line as an entry
-IsLegalEntry-new : {s : Job} {A B : Answering} {p : List ℕ} {J : List ℕ} {n : ℕ} {a : Answer} → AddsAnswer A n a B → ComesNext s A n → IsLegalJournal s A p J
-    → committed s B p n ≡ Some (suc (length J)) → enabled_in (op_at s n) (λ op. is_enabled op (state s A J (length J))) ≡ true → IsOfNoEarlierPhase s n J
+IsLegalEntry-new : {s : Job} {A B : Answering} {p : List ℕ} {J : List ℕ} {n : ℕ} {a : Answer} → AddsAnswer A n a B → ComesNext s A n
+    → IsLegalJournal s A p J
+    → committed s B p n ≡ Some (suc (length J)) → enabled_in (op_at s n) (λ op. is_enabled op (state s A J (length J))) ≡ true
+    → IsOfNoEarlierPhase s n J
     → IsLegalEntry s B p (J ++ n ∷ []) (length J) n
 IsLegalEntry-new {s} {A} {B} {p} {J} {n} {a} adds next legal commits enabled later = record {
   committed = commits;
@@ -142,11 +162,14 @@ IsLegalEntry-new {s} {A} {B} {p} {J} {n} {a} adds next legal commits enabled lat
   phases = λ i m before at. AllByRecursion-at (λ j. phase s j ≤ phase s n) J i m later (slice_get-push_below J n i m before at);
   enabled =
       let same = state_in-agree s (bytes_of s) A B J (length J) (pending_at-in_journal adds next legal) in
-      subst (λ f. enabled_in (op_at s n) (λ op. is_enabled op f) ≡ true) (same ∙ sym (state_in-push s (bytes_of s) B J n (length J) (omega arith))) enabled;
+      subst (λ f. enabled_in (op_at s n) (λ op. is_enabled op f) ≡ true) (same
+      ∙ sym (state_in-push s (bytes_of s) B J n (length J) (omega arith))) enabled;
 }
 
-pub IsLegalJournal-commit : {s : Job} {A B : Answering} {p : List ℕ} {J : List ℕ} {n : ℕ} {a : Answer} → AddsAnswer A n a B → ComesNext s A n
-    → committed s B p n ≡ Some (suc (length J)) → enabled_in (op_at s n) (λ op. is_enabled op (state s A J (length J))) ≡ true → IsOfNoEarlierPhase s n J
+pub IsLegalJournal-commit : {s : Job} {A B : Answering} {p : List ℕ} {J : List ℕ} {n : ℕ} {a : Answer} → AddsAnswer A n a B
+    → ComesNext s A n
+    → committed s B p n ≡ Some (suc (length J)) → enabled_in (op_at s n) (λ op. is_enabled op (state s A J (length J))) ≡ true
+    → IsOfNoEarlierPhase s n J
     → IsLegalJournal s A p J → IsLegalJournal s B p (J ++ n ∷ [])
 IsLegalJournal-commit {s} {A} {B} {p} {J} {n} {a} adds next commits enabled later legal =
     let same = pending_at-in_journal adds next legal in
@@ -154,9 +177,11 @@ IsLegalJournal-commit {s} {A} {B} {p} {J} {n} {a} adds next commits enabled late
       entries = λ k m at. elim (slice_get-push_cases J n k m at) [
         | inl old ↦
             let given = some_of (A m) (answered-in_journal k m legal old) in
-            let kept = IsLegalEntry-same B (committed-answered p m given.0 adds next given.1) (state_in-agree s (bytes_of s) A B J k same) (legal.entries k m old) in
+            let kept = IsLegalEntry-same B (committed-answered p m given.0 adds next given.1) (state_in-agree s (bytes_of s) A B J k same)
+            (legal.entries k m old) in
             IsLegalEntry-longer n (slice_get_within J k m old) (answered≢next m given.0 next given.1) kept
-        | inr new ↦ subst₂ (λ i j. IsLegalEntry s B p (J ++ n ∷ []) i j) (sym new.0) (sym new.1) (IsLegalEntry-new adds next legal commits enabled later)
+        | inr new ↦ subst₂ (λ i j. IsLegalEntry s B p (J ++ n ∷ []) i j) (sym new.0) (sym new.1)
+            (IsLegalEntry-new adds next legal commits enabled later)
       ];
       whole = λ m v h. elim (cases_eq m n) [
         | inl is ↦ subst (λ j. Contains (J ++ n ∷ []) j) (sym is) (Contains-push J n)

@@ -36,8 +36,7 @@ found_behind j js (k ∷ ks) less found =
     (here, found_behind j js ks less.1 found.1)
 
 -- where the paths rise, each journal is that of its path
-journal_of-each : (js : List (List ℕ × List ℕ)) → AreRising (map (λ j. j.0) js)
-    → AllByRecursion (λ j. journal_of js j.0 ≡ j.1) js
+journal_of-each : (js : List (List ℕ × List ℕ)) → AreRising (map (λ j. j.0) js) → AllByRecursion (λ j. journal_of js j.0 ≡ j.1) js
 journal_of-each [] rising = tt
 journal_of-each (j ∷ js) rising =
     let here = cond-true (bytes_eq j.0 j.0) j.1 (journal_of js j.0) ((bytes_eq-Decides j.0 j.0).1 refl) in
@@ -47,13 +46,12 @@ journal_of-each (j ∷ js) rising =
 
 -- a path that the script names is a path
 IsPath-named : (s : Job) (p : List ℕ) → IsJob s → Names s p → IsPath p
-IsPath-named s p job named = subst IsPath named.on (IsOpLine-from_job named.line named.op job named.is).path
+IsPath-named s p job named = subst IsPath named.on (IsOpLine-from_job s named.line named.op job named.is).path
 
 -- what a file is printed as
 IsPrintableState-file : (f : File ℕ) → IsWithinLimits f → IsPrintableState (file_state_of f)
 IsPrintableState-file None within = tt
-IsPrintableState-file (Some c) within =
-    record { count = omega (arith, within.length); digest = IsDigest-md5 (take DIGEST_LIMIT c.cells) }
+IsPrintableState-file (Some c) within = record { count = omega (arith, within.length); digest = IsDigest-md5 (take DIGEST_LIMIT c.cells) }
 
 module _ (told : List ℕ) (s : Job) (R : Report) (job : IsJob s) (legal : IsLegal s R told) where
   -- each answer is to an operation, and is the one that is found there
@@ -119,6 +117,5 @@ IsPrintable-legal {told} {s} {R} job all legal = record {
   answers = recursion_from_All IsPrintableLine R.answers (answers_are_printable told s R job legal all);
   journals = recursion_from_All IsPrintableJournal R.journals (journals_are_printable told s R job legal);
   files = recursion_from_All IsPrintableFile R.files (files_are_printable told s R job legal);
-  as_many =
-      sym (length-map R.journals (λ j. j.0)) ∙ (ap length (sym legal.shape.files) ∙ length-map R.files (λ f. f.0));
+  as_many = sym (length-map R.journals (λ j. j.0)) ∙ (ap length (sym legal.shape.files) ∙ length-map R.files (λ f. f.0));
 }

@@ -27,7 +27,8 @@ first_line bs i e =
     let rest = drop (n + 1) bs in
     let parts = slice_split_first is_line_feed bs 0 (rw (← p.0) p.1) in
     let some : 0 < length (slice_split is_line_feed rest) = omega (arith, length-slice_split is_line_feed rest) in
-    let first : lines_of bs ≡ take n bs ∷ lines_of rest = ap without_empty_end parts ∙ keeps_end (take n bs) (slice_split is_line_feed rest) some in
+    let first : lines_of bs ≡ take n bs ∷ lines_of rest = ap without_empty_end parts
+    ∙ keeps_end (take n bs) (slice_split is_line_feed rest) some in
     record { lines = rw p.0 first; within = p.1 }
 
 no_position : (bs : List ℕ) → position is_line_feed bs ≡ None → length bs ≤ position_or_len is_line_feed bs
@@ -38,7 +39,8 @@ no_empty_end l lt = grind (arith, nat_tests)
 
 pub last_line : (bs : List ℕ) → position is_line_feed bs ≡ None → 0 < length bs → lines_of bs ≡ bs ∷ []
 last_line bs e lt =
-    let none : All (λ x. is_line_feed x ≡ false) bs = λ k d below. fails_before_first is_line_feed bs k d (omega (arith, no_position bs e)) in
+    let none : All (λ x. is_line_feed x ≡ false) bs = λ k d below.
+    fails_before_first is_line_feed bs k d (omega (arith, no_position bs e)) in
     ap without_empty_end (slice_split_none is_line_feed bs none) ∙ no_empty_end bs lt
 
 -- the lines that were read before, and those that are still read
@@ -46,14 +48,18 @@ abbrev pub with_front : List Line → Result (List Line) ScriptFault → Result 
 with_front front (Ok ls) = Ok (front ++ ls)
 with_front front (Err f) = Err f
 
-regroup : (front : List Line) (l : Line) (rest : Result (List Line) ScriptFault) → with_front front (with_line l rest) ≡ with_front (front ++ l ∷ []) rest
+regroup : (front : List Line) (l : Line) (rest : Result (List Line) ScriptFault)
+    → with_front front (with_line l rest) ≡ with_front (front ++ l ∷ []) rest
 regroup front l (Ok ls) = ap Ok (sym (append_assoc front (l ∷ []) ls))
 regroup front l (Err f) = refl
 
 -- one more line was read
-pub goes_on : (h : Shape) (front new : List Line) (t : List ℕ) (ts : List (List ℕ)) (l : Line) (total : Result (List Line) ScriptFault) → line_of h t ≡ Some l → new ≡ front ++ l ∷ []
+pub goes_on : (h : Shape) (front new : List Line) (t : List ℕ) (ts : List (List ℕ)) (l : Line) (total : Result (List Line) ScriptFault)
+    → line_of h t ≡ Some l → new ≡ front ++ l ∷ []
     → with_front front (lines_from h (length front + 2) (t ∷ ts)) ≡ total → with_front new (lines_from h (length new + 2) ts) ≡ total
 goes_on h front new t ts l total found is so_far =
     let count : length new + 2 ≡ length front + 2 + 1 = omega (arith, ap length is, length-append front (l ∷ [])) in
-    let one : with_front front (lines_from h (length front + 2) (t ∷ ts)) ≡ with_front (front ++ l ∷ []) (lines_from h (length front + 2 + 1) ts) = rw found (regroup front l (lines_from h (length front + 2 + 1) ts)) in
+    let one : with_front front (lines_from h (length front + 2) (t ∷ ts))
+    ≡ with_front (front ++ l ∷ []) (lines_from h (length front + 2 + 1) ts) =
+    rw found (regroup front l (lines_from h (length front + 2 + 1) ts)) in
     rw (count, is) (sym one ∙ so_far)

@@ -50,8 +50,7 @@ module _ {X : Type 0} (P : X → Type 0) where
 -- ---- one more element at the end
 
 -- the places that were there keep their elements
-pub slice_get-push : {X : Type 0} (xs : List X) (y : X) (k : ℕ) (x : X)
-    → slice_get xs k ≡ Some x → slice_get (xs ++ y ∷ []) k ≡ Some x
+pub slice_get-push : {X : Type 0} (xs : List X) (y : X) (k : ℕ) (x : X) → slice_get xs k ≡ Some x → slice_get (xs ++ y ∷ []) k ≡ Some x
 slice_get-push xs y k x at =
     let within = slice_get_within xs k x at in
     let same = get_or_append_left xs (y ∷ []) x k within ∙ get_or_from_slice_get xs k x x at in
@@ -80,8 +79,7 @@ slice_get-push_below xs y k x below at =
 -- ---- how many pass a test
 
 -- a longer front has at least as many
-pub count_by-take-rises : {X : Type 0} (p : X → Bool) (xs : List X) (a b : ℕ) → a ≤ b
-    → count_by p (take a xs) ≤ count_by p (take b xs)
+pub count_by-take-rises : {X : Type 0} (p : X → Bool) (xs : List X) (a b : ℕ) → a ≤ b → count_by p (take a xs) ≤ count_by p (take b xs)
 count_by-take-rises p xs a b le =
     subst (λ ys. count_by p ys ≤ count_by p (take b xs)) (take-take a b xs le) (sum_by-take-le (λ x. cond (p x) 1 0) (take b xs) a)
 

@@ -23,8 +23,7 @@ parts_are_few len chunk slots short is = omega (arith, div-le_self len chunk)
 -- no write fills more slots than it has bytes
 slots_are_few : (w : LineView) (op : Op) (slots : ℕ) → IsOp op → Accepts w (brought op) slots → slots < 2 ^ 32
 slots_are_few w ops.Create slots is accepts = absurd accepts
-slots_are_few w (ops.Write off (Text bytes)) slots is accepts =
-    parts_are_few (length bytes) w.chunk slots is.1.1 accepts.2
+slots_are_few w (ops.Write off (Text bytes)) slots is accepts = parts_are_few (length bytes) w.chunk slots is.1.1 accepts.2
 slots_are_few w ops.Sync slots is accepts = absurd accepts
 slots_are_few w (ops.Read off len) slots is accepts = absurd accepts
 
@@ -34,10 +33,7 @@ slots_are_few w (ops.Read off len) slots is accepts = absurd accepts
 IsPrintableBody-body_of : (bytes : List ℕ) → AllBytes bytes → IsPrintableBody (body_of bytes)
 IsPrintableBody-body_of bytes are =
     cond_both (nat_le (length bytes) HEX_LIMIT) (bodies.Hex bytes) (bodies.Md5 (md5 bytes)) IsPrintableBody
-    (λ short. record {
-      size = leb-true (length bytes) HEX_LIMIT short;
-      bytes = recursion_from_All (λ b. b < 256) bytes are;
-    })
+    (λ short. record { size = leb-true (length bytes) HEX_LIMIT short; bytes = recursion_from_All (λ b. b < 256) bytes are })
     (λ _. IsDigest-md5 bytes)
 
 -- a range of a file has no more bytes than the file
@@ -57,8 +53,7 @@ range_is_printable compared (Some x) (Some f) n body told within shows =
 
 -- versions count the lines of a journal, which are no more than those of the job
 pub IsPrintableAnswer-fits : {told : List ℕ} {s : Job} {A : Answering} {J : List ℕ} {n : ℕ} {o : OpLine} {a : Answer}
-    → IsJob s → AreTold s told → IsLegalJournal s A o.path J → op_at s n ≡ Some o
-    → Fits told s A J n o a → IsPrintableAnswer a
+    → IsJob s → AreTold s told → IsLegalJournal s A o.path J → op_at s n ≡ Some o → Fits told s A J n o a → IsPrintableAnswer a
 IsPrintableAnswer-fits {told} {s} {A} {J} {n} {o} {a} job all legal is fits = by a fits
   where
     few : length J < 2 ^ 17
@@ -66,8 +61,7 @@ IsPrintableAnswer-fits {told} {s} {A} {J} {n} {o} {a} job all legal is fits = by
 
     by : (b : Answer) → Fits told s A J n o b → IsPrintableAnswer b
     by (answers.Done v) fit = omega (arith, fit.version.length, few)
-    by (answers.Wrote slots) fit =
-        slots_are_few (line_view s A J n o) o.op slots (IsOpLine-from_job n o job is).op fit.answer
+    by (answers.Wrote slots) fit = slots_are_few (line_view s A J n o) o.op slots (IsOpLine-from_job s n o job is).op fit.answer
     by (answers.Shown v m body) fit =
         let file = IsWithinLimits-state s job A J v in
         let range = range_is_printable (AreTold s told) (asked o.op) (state s A J v) m body all file fit.answer in

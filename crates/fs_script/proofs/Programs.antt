@@ -10,7 +10,8 @@ use Rattle.fs_script.proofs.PlainLists.{passes, passing-place}
 pub program-place : (s : Job) (n : ℕ) (o : OpLine) → op_at s n ≡ Some o → (k : ℕ) × (slice_get (program s o.rank) k ≡ Some n)
 program-place s n o is =
     let within = op_at-within s n o is in
-    passing-place (λ m. is_of_rank o.rank (op_at s m)) 2 (length s.lines) n (ap (is_of_rank o.rank) is ∙ eq-eqb o.rank o.rank refl) within.0 within.1
+    passing-place (λ m. is_of_rank o.rank (op_at s m)) 2 (length s.lines) n (ap (is_of_rank o.rank) is
+    ∙ eq-eqb o.rank o.rank refl) within.0 within.1
 
 of_rank : (r : ℕ) (o : Option OpLine) → is_of_rank r o ≡ true → (l : OpLine) × (o ≡ Some l) × (l.rank ≡ r)
 of_rank r None h = absurd (true≢false (sym h))

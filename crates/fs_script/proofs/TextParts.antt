@@ -47,7 +47,8 @@ above_lower c d b le h = grind (arith, nat_tests)
 -- and so is a text
 pub AreAbove-lower : (c d : ℕ) (xs : List ℕ) → c ≤ d → AreAbove d xs → AreAbove c xs
 AreAbove-lower c d xs le h =
-    list_all-from_AllPass (nat_lt c) xs (All-weaker (λ b. nat_lt d b ≡ true) (λ b. nat_lt c b ≡ true) (λ b. above_lower c d b le) xs (AllPass-from_list_all (nat_lt d) xs h))
+    list_all-from_AllPass (nat_lt c) xs (All-weaker (λ b. nat_lt d b ≡ true) (λ b. nat_lt c b ≡ true) (λ b. above_lower c d b le) xs
+    (AllPass-from_list_all (nat_lt d) xs h))
 
 -- a digit is above the space
 digit_above : (d : ℕ) → nat_lt 32 (48 + d) ≡ true
@@ -60,7 +61,8 @@ one_digit_above d = and_from (nat_lt 32 (48 + d)) true (digit_above d) refl
 -- the digits of a number are above the space
 pub AreAbove-decimal : (n : ℕ) → n < 2 ^ 64 → AreAbove 32 (decimal n)
 AreAbove-decimal n small =
-    decimal_by_steps (λ m ds. AreAbove 32 ds) (λ m low. one_digit_above m) (λ m ds high above. AreAbove-append 32 ds ((48 + m % 10) ∷ []) above (one_digit_above (m % 10))) n small
+    decimal_by_steps (λ m ds. AreAbove 32 ds) (λ m low. one_digit_above m)
+    (λ m ds high above. AreAbove-append 32 ds ((48 + m % 10) ∷ []) above (one_digit_above (m % 10))) n small
 
 -- what reads as a hex digit is above the space
 hex_digit_above : (c v : ℕ) → hex_digit_value c ≡ Some v → nat_lt 32 c ≡ true
@@ -79,7 +81,8 @@ AreAbove-encode_lower (b ∷ bytes) h =
     let low = slice_index lower_digits (b % 16) in
     let small : b < 256 = h.0 in
     and_from (nat_lt 32 high) (nat_lt 32 low && list_all (nat_lt 32) (encode_lower bytes)) (lower_digit_above (b / 16) (omega arith))
-    (and_from (nat_lt 32 low) (list_all (nat_lt 32) (encode_lower bytes)) (lower_digit_above (b % 16) (omega arith)) (AreAbove-encode_lower bytes h.1))
+    (and_from (nat_lt 32 low) (list_all (nat_lt 32) (encode_lower bytes)) (lower_digit_above (b % 16) (omega arith))
+    (AreAbove-encode_lower bytes h.1))
 
 -- a visible byte is above the space
 visible_above : (b : ℕ) → IsVisible b → nat_lt 32 b ≡ true
@@ -87,4 +90,5 @@ visible_above b h = grind (arith, nat_tests)
 
 -- and a path
 pub AreAbove-path : (path : List ℕ) → IsPath path → AreAbove 32 path
-AreAbove-path path h = list_all-from_AllPass (nat_lt 32) path (All-weaker IsVisible (λ b. nat_lt 32 b ≡ true) visible_above path (path_is_visible path h))
+AreAbove-path path h = list_all-from_AllPass (nat_lt 32) path
+    (All-weaker IsVisible (λ b. nat_lt 32 b ≡ true) visible_above path (path_is_visible path h))

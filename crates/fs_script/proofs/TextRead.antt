@@ -35,7 +35,8 @@ IsBytes-from_AreBytes (b ∷ bytes) h (suc i) = IsBytes-from_AreBytes bytes h.1 
 
 -- the hex text of bytes gives them back
 bytes_of_hex-encode_lower : (bytes : List ℕ) → AreBytes bytes → bytes_of_hex (encode_lower bytes) ≡ bytes
-bytes_of_hex-encode_lower bytes h = ap (λ (r : Result (List ℕ) FromHexError). result_unwrap_or r []) (decode_of-encode_lower bytes (IsBytes-from_AreBytes bytes h))
+bytes_of_hex-encode_lower bytes h = ap (λ (r : Result (List ℕ) FromHexError). result_unwrap_or r [])
+    (decode_of-encode_lower bytes (IsBytes-from_AreBytes bytes h))
 
 -- ---- lines by their words
 
@@ -49,7 +50,8 @@ HasWords-one : (word : List ℕ) → AreAbove 32 word → HasWords word (word �
 HasWords-one word h = record { above = AreAbove-lower 10 32 word (omega arith) h; cut = cut_at-none 32 word h }
 
 -- a word and a space before a line
-HasWords-more : (word rest : List ℕ) (words : List (List ℕ)) → AreAbove 32 word → HasWords rest words → HasWords (word ++ 32 ∷ rest) (word ∷ words)
+HasWords-more : (word rest : List ℕ) (words : List (List ℕ)) → AreAbove 32 word → HasWords rest words
+    → HasWords (word ++ 32 ∷ rest) (word ∷ words)
 HasWords-more word rest words h more = record {
   above = AreAbove-append 10 word (32 ∷ rest) (AreAbove-lower 10 32 word (omega arith) h) more.above;
   cut = cut_at-first 32 word rest h ∙ ap (λ ws. word ∷ ws) more.cut;
@@ -60,7 +62,8 @@ HasWords-same : (line same : List ℕ) (words : List (List ℕ)) → line ≡ sa
 HasWords-same line same words e h = subst (λ l. HasWords l words) (sym e) h
 
 -- a line reads as its words, before what follows it
-read-line : (line rest : List ℕ) (words : List (List ℕ)) → HasWords line words → read ((line ++ line_feed) ++ rest) ≡ with_line words (read rest)
+read-line : (line rest : List ℕ) (words : List (List ℕ)) → HasWords line words
+    → read ((line ++ line_feed) ++ rest) ≡ with_line words (read rest)
 read-line line rest words h =
     ap (λ bytes. read bytes) (append_assoc line line_feed rest)
     ∙ (ap (λ lines. read_lines lines) (cut_at-first 10 line rest h.above) ∙ ap (λ ws. with_line ws (read rest)) h.cut)
@@ -84,8 +87,10 @@ answer_words (answers.ReadOnly v) = codes "readonly" ∷ (codes "v=" ++ decimal 
 answer_words answers.TooBig = codes "toobig" ∷ []
 
 -- two words, the second of them a number with its name
-two_words : (word name : List ℕ) (n : ℕ) → AreAbove 32 word → AreAbove 32 name → n < 2 ^ 64 → HasWords (word ++ 32 ∷ (name ++ decimal n)) (word ∷ (name ++ decimal n) ∷ [])
-two_words word name n h k small = HasWords-more word (name ++ decimal n) _ h (HasWords-one (name ++ decimal n) (AreAbove-append 32 name (decimal n) k (AreAbove-decimal n small)))
+two_words : (word name : List ℕ) (n : ℕ) → AreAbove 32 word → AreAbove 32 name → n < 2 ^ 64
+    → HasWords (word ++ 32 ∷ (name ++ decimal n)) (word ∷ (name ++ decimal n) ∷ [])
+two_words word name n h k small = HasWords-more word (name ++ decimal n) _ h
+    (HasWords-one (name ++ decimal n) (AreAbove-append 32 name (decimal n) k (AreAbove-decimal n small)))
 
 -- the text of an answer has these words
 HasWords-answer_text : (a : Answer) → IsPrintableAnswer a → HasWords (answer_text a) (answer_words a)
@@ -98,7 +103,8 @@ HasWords-answer_text (answers.Shown v n body) h =
     let counted = HasWords-more count (body_text body) _ (AreAbove-decimal n h.count) last in
     let versioned = HasWords-more version (count ++ 32 ∷ body_text body) _ (AreAbove-decimal v h.version) counted in
     let whole = HasWords-more (codes "ok") (version ++ 32 ∷ (count ++ 32 ∷ body_text body)) _ refl versioned in
-    HasWords-same (answer_text (answers.Shown v n body)) (codes "ok" ++ 32 ∷ (version ++ 32 ∷ (count ++ 32 ∷ body_text body))) _ (simp append_assoc) whole
+    HasWords-same (answer_text (answers.Shown v n body)) (codes "ok" ++ 32 ∷ (version ++ 32 ∷ (count ++ 32 ∷ body_text body))) _
+    (simp append_assoc) whole
 HasWords-answer_text answers.BadF h = HasWords-one (codes "badf") refl
 HasWords-answer_text (answers.Exists v) h = two_words (codes "exists") (codes "v=") v refl refl h
 HasWords-answer_text (answers.NoEnt v) h = two_words (codes "noent") (codes "v=") v refl refl h
@@ -132,15 +138,19 @@ read-answer_line a rest h =
     let small = small_of_32 a.0 h.line in
     let numbered = HasWords-more (decimal a.0) (answer_text a.1) _ (AreAbove-decimal a.0 small) (HasWords-answer_text a.1 h.answer) in
     let whole = HasWords-more (codes "L") (decimal a.0 ++ 32 ∷ answer_text a.1) _ refl numbered in
-    read-line line rest (codes "L" ∷ decimal a.0 ∷ answer_words a.1) (HasWords-same line (codes "L" ++ 32 ∷ (decimal a.0 ++ 32 ∷ answer_text a.1)) _ (simp append_assoc) whole)
-    ∙ (ap (λ (n : ℕ). with_answer (n, read_answer (answer_words a.1)) (read rest)) (number-decimal a.0 small) ∙ ap (λ (b : Answer). with_answer (a.0, b) (read rest)) (read_answer-words a.1 h.answer))
+    read-line line rest (codes "L" ∷ decimal a.0 ∷ answer_words a.1)
+    (HasWords-same line (codes "L" ++ 32 ∷ (decimal a.0 ++ 32 ∷ answer_text a.1)) _ (simp append_assoc) whole)
+    ∙ (ap (λ (n : ℕ). with_answer (n, read_answer (answer_words a.1)) (read rest)) (number-decimal a.0 small)
+    ∙ ap (λ (b : Answer). with_answer (a.0, b) (read rest)) (read_answer-words a.1 h.answer))
 
 -- ---- journals
 
 -- after a word, a journal's lines are a word each
-HasWords-entries : (word : List ℕ) (lines : List ℕ) → AreAbove 32 word → AllByRecursion (λ n. n < 2 ^ 32) lines → HasWords (word ++ flat_map entry_text lines) (word ∷ map decimal lines)
+HasWords-entries : (word : List ℕ) (lines : List ℕ) → AreAbove 32 word → AllByRecursion (λ n. n < 2 ^ 32) lines
+    → HasWords (word ++ flat_map entry_text lines) (word ∷ map decimal lines)
 HasWords-entries word [] above h = HasWords-same (word ++ []) word (word ∷ []) (append-nil word) (HasWords-one word above)
-HasWords-entries word (n ∷ lines) above h = HasWords-more word (decimal n ++ flat_map entry_text lines) _ above (HasWords-entries (decimal n) lines (AreAbove-decimal n (small_of_32 n h.0)) h.1)
+HasWords-entries word (n ∷ lines) above h = HasWords-more word (decimal n ++ flat_map entry_text lines) _ above
+    (HasWords-entries (decimal n) lines (AreAbove-decimal n (small_of_32 n h.0)) h.1)
 
 -- the decimal texts of numbers spell them
 numbers-decimals : (lines : List ℕ) → AllByRecursion (λ n. n < 2 ^ 32) lines → map number (map decimal lines) ≡ lines
@@ -148,11 +158,14 @@ numbers-decimals [] h = refl
 numbers-decimals (n ∷ lines) h = let first = number-decimal n (small_of_32 n h.0) in let more = numbers-decimals lines h.1 in cc
 
 -- the line of a journal reads as one more journal
-read-journal_line : (j : List ℕ × List ℕ) (rest : List ℕ) → IsPrintableJournal j → read (journal_line j ++ rest) ≡ with_journal j (read rest)
+read-journal_line : (j : List ℕ × List ℕ) (rest : List ℕ) → IsPrintableJournal j
+    → read (journal_line j ++ rest) ≡ with_journal j (read rest)
 read-journal_line j rest h =
     let line = codes "J " ++ j.0 ++ flat_map entry_text j.1 in
-    let whole = HasWords-more (codes "J") (j.0 ++ flat_map entry_text j.1) _ refl (HasWords-entries j.0 j.1 (AreAbove-path j.0 h.path) h.lines) in
-    read-line line rest (codes "J" ∷ j.0 ∷ map decimal j.1) whole ∙ ap (λ (lines : List ℕ). with_journal (j.0, lines) (read rest)) (numbers-decimals j.1 h.lines)
+    let whole = HasWords-more (codes "J") (j.0 ++ flat_map entry_text j.1) _ refl
+    (HasWords-entries j.0 j.1 (AreAbove-path j.0 h.path) h.lines) in
+    read-line line rest (codes "J" ∷ j.0 ∷ map decimal j.1) whole
+    ∙ ap (λ (lines : List ℕ). with_journal (j.0, lines) (read rest)) (numbers-decimals j.1 h.lines)
 
 -- ---- files
 
@@ -169,10 +182,12 @@ read-flag true = refl
 -- the words of a file after its path
 abbrev state_words : FileState → List (List ℕ)
 state_words states.Gone = codes "none" ∷ []
-state_words (states.Whole n frozen md5) = (codes "n=" ++ decimal n) ∷ (codes "frozen=" ++ flag_text frozen) ∷ (codes "md5=" ++ encode_lower md5) ∷ []
+state_words (states.Whole n frozen md5) = (codes "n=" ++ decimal n) ∷ (codes "frozen=" ++ flag_text frozen) ∷ (codes "md5=" ++ encode_lower
+    md5) ∷ []
 
 -- a path and the text of a file have these words
-HasWords-state : (path : List ℕ) (s : FileState) → AreAbove 32 path → IsPrintableState s → HasWords (path ++ file_text s) (path ∷ state_words s)
+HasWords-state : (path : List ℕ) (s : FileState) → AreAbove 32 path → IsPrintableState s
+    → HasWords (path ++ file_text s) (path ∷ state_words s)
 HasWords-state path states.Gone above h = HasWords-more path (codes "none") _ above (HasWords-one (codes "none") refl)
 HasWords-state path (states.Whole n frozen md5) above h =
     let count = codes "n=" ++ decimal n in
@@ -182,7 +197,8 @@ HasWords-state path (states.Whole n frozen md5) above h =
     let flagged = HasWords-more flag digest _ (flag_above frozen) last in
     let counted = HasWords-more count (flag ++ 32 ∷ digest) _ (AreAbove-decimal n h.count) flagged in
     let whole = HasWords-more path (count ++ 32 ∷ (flag ++ 32 ∷ digest)) _ above counted in
-    HasWords-same (path ++ file_text (states.Whole n frozen md5)) (path ++ 32 ∷ (count ++ 32 ∷ (flag ++ 32 ∷ digest))) _ (simp append_assoc) whole
+    HasWords-same (path ++ file_text (states.Whole n frozen md5)) (path ++ 32 ∷ (count ++ 32 ∷ (flag ++ 32 ∷ digest))) _ (simp append_assoc)
+    whole
 
 -- the words of a file read as the file
 read_state-words : (s : FileState) → IsPrintableState s → read_state (state_words s) ≡ s
@@ -198,7 +214,8 @@ read-file_line : (f : List ℕ × FileState) (rest : List ℕ) → IsPrintableFi
 read-file_line f rest h =
     let line = codes "F " ++ f.0 ++ file_text f.1 in
     let whole = HasWords-more (codes "F") (f.0 ++ file_text f.1) _ refl (HasWords-state f.0 f.1 (AreAbove-path f.0 h.path) h.state) in
-    read-line line rest (codes "F" ∷ f.0 ∷ state_words f.1) whole ∙ ap (λ (s : FileState). with_file (f.0, s) (read rest)) (read_state-words f.1 h.state)
+    read-line line rest (codes "F" ∷ f.0 ∷ state_words f.1) whole
+    ∙ ap (λ (s : FileState). with_file (f.0, s) (read rest)) (read_state-words f.1 h.state)
 
 -- ---- the whole text
 
@@ -207,7 +224,8 @@ abbrev with_all : List (ℕ × Answer) → List (List ℕ × List ℕ) → List 
 with_all given js fs R = record { answers = given ++ R.answers; journals = js ++ R.journals; files = fs ++ R.files }
 
 -- the lines of answers read as those answers
-read-answers : (given : List (ℕ × Answer)) (rest : List ℕ) → AllByRecursion IsPrintableLine given → read (flat_map answer_line given ++ rest) ≡ with_all given [] [] (read rest)
+read-answers : (given : List (ℕ × Answer)) (rest : List ℕ) → AllByRecursion IsPrintableLine given
+    → read (flat_map answer_line given ++ rest) ≡ with_all given [] [] (read rest)
 read-answers [] rest h = refl
 read-answers (a ∷ given) rest h =
     ap (λ bytes. read bytes) (append_assoc (answer_line a) (flat_map answer_line given) rest)
@@ -215,15 +233,16 @@ read-answers (a ∷ given) rest h =
 
 -- the lines of journals and files read as those journals and files
 read-path_lines : (js : List (List ℕ × List ℕ)) (fs : List (List ℕ × FileState)) (rest : List ℕ) → length js ≡ length fs
-    → AllByRecursion IsPrintableJournal js → AllByRecursion IsPrintableFile fs → read (path_lines js fs ++ rest) ≡ with_all [] js fs (read rest)
+    → AllByRecursion IsPrintableJournal js → AllByRecursion IsPrintableFile fs
+    → read (path_lines js fs ++ rest) ≡ with_all [] js fs (read rest)
 read-path_lines [] [] rest same h k = refl
 read-path_lines [] (f ∷ fs) rest same h k = absurd (omega arith)
 read-path_lines (j ∷ js) [] rest same h k = absurd (omega arith)
 read-path_lines (j ∷ js) (f ∷ fs) rest same h k =
     let more = path_lines js fs ++ rest in
-    ap (λ bytes. read bytes) (append_assoc (journal_line j ++ file_line f) (path_lines js fs) rest ∙ append_assoc (journal_line j) (file_line f) more)
-    ∙ (read-journal_line j (file_line f ++ more) h.0
-    ∙ (ap (λ (R : Report). with_journal j R) (read-file_line f more k.0)
+    ap (λ bytes. read bytes) (append_assoc (journal_line j ++ file_line f) (path_lines js fs) rest
+    ∙ append_assoc (journal_line j) (file_line f) more)
+    ∙ (read-journal_line j (file_line f ++ more) h.0 ∙ (ap (λ (R : Report). with_journal j R) (read-file_line f more k.0)
     ∙ ap (λ (R : Report). with_journal j (with_file f R)) (read-path_lines js fs rest (omega arith) h.1 k.1)))
 
 -- the text of a printable report reads as that report, whatever follows
@@ -232,8 +251,7 @@ read-text R more h =
     let end = codes "end" ++ 10 ∷ more in
     let paths = path_lines R.journals R.files in
     let assoc : text R ++ more ≡ flat_map answer_line R.answers ++ (paths ++ end) = simp append_assoc in
-    ap (λ bytes. read bytes) assoc
-    ∙ (read-answers R.answers (paths ++ end) h.answers
+    ap (λ bytes. read bytes) assoc ∙ (read-answers R.answers (paths ++ end) h.answers
     ∙ (ap (λ (S : Report). with_all R.answers [] [] S) (read-path_lines R.journals R.files end h.as_many h.journals h.files)
     ∙ simp append-nil))
 

@@ -7,7 +7,9 @@ use Rattle.fs_script.specs.Reading.{shape_of, header_of_words, line_of_words, op
 abbrev pub texts : List (Bor (List ℕ)) → List (List ℕ)
 texts ws = map (λ w. w.now) ws
 
-pub header_at_seven : (ws : List (Bor (List ℕ))) (d : Bor (List ℕ)) → length ws ≡ 7 → header_of_words (texts ws) ≡ cond (bytes_eq (get_or ws 0 d).now (codes "unifyfs") && bytes_eq (get_or ws 1 d).now (codes "1")) (shape_of (get_or ws 2 d).now (get_or ws 3 d).now (get_or ws 4 d).now (get_or ws 5 d).now (get_or ws 6 d).now) None
+pub header_at_seven : (ws : List (Bor (List ℕ))) (d : Bor (List ℕ)) → length ws ≡ 7
+    → header_of_words (texts ws) ≡ cond (bytes_eq (get_or ws 0 d).now (codes "unifyfs") && bytes_eq (get_or ws 1 d).now (codes "1"))
+    (shape_of (get_or ws 2 d).now (get_or ws 3 d).now (get_or ws 4 d).now (get_or ws 5 d).now (get_or ws 6 d).now) None
 header_at_seven [] d e = absurd (omega arith)
 header_at_seven (a ∷ []) d e = absurd (omega arith)
 header_at_seven (a ∷ b ∷ []) d e = absurd (omega arith)
@@ -35,7 +37,9 @@ op_elsewhere kind (a ∷ []) n0 n2 = refl
 op_elsewhere kind (a ∷ b ∷ []) n0 n2 = absurd (n2 refl)
 op_elsewhere kind (a ∷ b ∷ c ∷ ws) n0 n2 = refl
 
-pub line_at_three : (s : Shape) (ws : List (Bor (List ℕ))) (d : Bor (List ℕ)) → 3 ≤ length ws → line_of_words s (texts ws) ≡ op_line_of s (get_or ws 0 d).now (get_or ws 2 d).now (op_of_words (get_or ws 1 d).now (texts (drop 3 ws)))
+pub line_at_three : (s : Shape) (ws : List (Bor (List ℕ))) (d : Bor (List ℕ)) → 3 ≤ length ws
+    → line_of_words s (texts ws) ≡ op_line_of s (get_or ws 0 d).now (get_or ws 2 d).now
+    (op_of_words (get_or ws 1 d).now (texts (drop 3 ws)))
 line_at_three s [] d le = absurd (omega arith)
 line_at_three s (a ∷ []) d le = absurd (omega arith)
 line_at_three s (a ∷ b ∷ []) d le = absurd (omega arith)
@@ -47,8 +51,12 @@ line_elsewhere s (a ∷ []) lt = refl
 line_elsewhere s (a ∷ b ∷ []) lt = refl
 line_elsewhere s (a ∷ b ∷ c ∷ ws) lt = absurd (omega arith)
 
-pub shape_from_seven : (ws : List (Bor (List ℕ))) (d : Bor (List ℕ)) (format : Bool) (r : Option Shape) → length ws ≡ 7 → format ≡ (bytes_eq (get_or ws 0 d).now (codes "unifyfs") && bytes_eq (get_or ws 1 d).now (codes "1")) → format ≡ true
-    → r ≡ shape_of (get_or ws 2 d).now (get_or ws 3 d).now (get_or ws 4 d).now (get_or ws 5 d).now (get_or ws 6 d).now → r ≡ header_of_words (texts ws)
+pub shape_from_seven : (ws : List (Bor (List ℕ))) (d : Bor (List ℕ)) (format : Bool) (r : Option Shape) → length ws ≡ 7
+    → format ≡ (bytes_eq (get_or ws 0 d).now (codes "unifyfs") && bytes_eq (get_or ws 1 d).now (codes "1")) → format ≡ true
+    → r ≡ shape_of (get_or ws 2 d).now (get_or ws 3 d).now (get_or ws 4 d).now (get_or ws 5 d).now (get_or ws 6 d).now
+    → r ≡ header_of_words (texts ws)
 shape_from_seven ws d format r seven tested holding is =
-    let holds : (bytes_eq (get_or ws 0 d).now (codes "unifyfs") && bytes_eq (get_or ws 1 d).now (codes "1")) ≡ true = sym tested ∙ holding in
-    is ∙ sym (header_at_seven ws d seven ∙ ap (λ b. cond b (shape_of (get_or ws 2 d).now (get_or ws 3 d).now (get_or ws 4 d).now (get_or ws 5 d).now (get_or ws 6 d).now) None) holds)
+    let holds : (bytes_eq (get_or ws 0 d).now (codes "unifyfs") && bytes_eq (get_or ws 1 d).now (codes "1")) ≡ true = sym tested
+    ∙ holding in
+    is ∙ sym (header_at_seven ws d seven ∙ ap (λ b. cond b
+    (shape_of (get_or ws 2 d).now (get_or ws 3 d).now (get_or ws 4 d).now (get_or ws 5 d).now (get_or ws 6 d).now) None) holds)

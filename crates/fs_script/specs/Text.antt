@@ -46,7 +46,8 @@ flag_text true = codes "1"
 
 abbrev pub file_text : FileState → List ℕ
 file_text states.Gone = codes " none"
-file_text (states.Whole n frozen md5) = codes " n=" ++ decimal n ++ codes " frozen=" ++ flag_text frozen ++ codes " md5=" ++ encode_lower md5
+file_text (states.Whole n frozen md5) = codes " n=" ++ decimal n ++ codes " frozen=" ++ flag_text frozen ++ codes " md5=" ++ encode_lower
+    md5
 
 -- the line of a file
 abbrev pub file_line : List ℕ × FileState → List ℕ

@@ -8,8 +8,6 @@ pub use Rattle.fs_types.specs.declared.answer.Answer.{Answer}
 pub use Rattle.fs_types.specs.declared.answer.Body.{Body}
 pub use Rattle.fs_types.specs.declared.file_state.FileState.{FileState}
 pub use Rattle.fs_types.specs.declared.limits.TheConstants.{HEX_LIMIT, LONGEST_FILE}
-pub use Rattle.fs_types.specs.declared.status.Status.{Status}
-pub use Rattle.fs_types.specs.declared.status.Status.TheVariants.{Done, Usage, ReadFault, WriteFault, Memory}
 pub use Rattle.fs_script.specs.AnswerKinds.{version_of, done_at}
 pub use Rattle.fs_script.specs.Effect.{state, put_lines, effect, after_all, state_in, is_enabled, effect_in, makes, effect_of}
 pub use Rattle.fs_script.specs.Fits.{Fits, AreTold, LineView, line_view, Accepts, ShowsAsked, body_of, IsInTable, IsNoLater, IsInReach}
@@ -30,13 +28,10 @@ pub use Rattle.fs_script.specs.Report.{ArePaths}
 pub use Rattle.fs_script.specs.SoFar.{IsLegalSoFar, Journals, IsNextAnswer, Pushes}
 pub use Rattle.fs_script.specs.Text.{text, answer_text, answer_line, body_text, entry_text, journal_line, flag_text, file_text, file_line}
 pub use Rattle.fs_script.specs.Text.{path_lines, line_feed}
-pub use Rattle.fs_script.specs.declared.fault.Reason.{Reason}
 pub use Rattle.fs_script.specs.declared.fault.ScriptFault.{ScriptFault}
 pub use Rattle.fs_script.specs.declared.limits.TheConstants.{TRANSFER_LIMIT, DIGEST_LIMIT}
-pub use Rattle.fs_script.specs.declared.line.Data.{Data}
 pub use Rattle.fs_script.specs.declared.line.Data.TheVariants.{Text}
 pub use Rattle.fs_script.specs.declared.line.Line.{Line}
 pub use Rattle.fs_script.specs.declared.line.Op.{Op}
-pub use Rattle.fs_script.specs.declared.line.Op.TheVariants.{Sync}
 pub use Rattle.fs_script.specs.declared.line.OpLine.{OpLine}
 pub use Rattle.fs_script.specs.declared.shape.Shape.{Shape}

@@ -7,9 +7,9 @@ pub use Rattle.std.proofs.Common.{slice_index_or, w32, true≢false, count_by, s
 pub use Rattle.std.proofs.Common.{Ordering, Less, Equal, Greater, nat_cmp, is_lt, is_eq, ◌/◌, ◌%◌, nat_lt, IsTrue, IsNone, IfSome}
 pub use Rattle.std.proofs.Common.{MatchBool, Err, append_assoc, position, le-ltb, ◌*◌, lit≤, add-one, ltb-true, ltb-false, ◌||◌, le-leb}
 pub use Rattle.std.proofs.Common.{IfNone, zip, Vec, option_map, sum_by, zero-add, fold, filter_map, Global, vec_capacity, slice_set}
-pub use Rattle.std.proofs.Common.{unwrap_or, IsSorted, IsPermutation, IfOk, OnOk, IsErr}
+pub use Rattle.std.proofs.Common.{unwrap_or, IsSorted, IsPermutation, IfOk, OnOk}
 pub use Rattle.std.proofs.Math.Nat.{div-le_self}
-pub use Rattle.std.proofs.Math.Seq.{map-set_same, take-add, take-suc}
+pub use Rattle.std.proofs.Math.Seq.{map-set_same}
 pub use Rattle.std.proofs.lemmas.Bool.{cases_lt, cond_both, leb-true, and_parts, and_from, eqb-false, cond-true, cases_eq, cases_order}
 pub use Rattle.std.proofs.lemmas.Bool.{eqb-true, ne_eqb, cases_Bool, cond-false, false_from_ne_true, eq-eqb, false≢true, OnTrue_from}
 pub use Rattle.std.proofs.lemmas.Bool.{or_cases, lt-leb, or_left, or_right, lt-ltb, and_right}
@@ -27,8 +27,9 @@ pub use Rattle.std.proofs.lemmas.Iterator.Splits.{YieldsList-from_slice_split}
 pub use Rattle.std.proofs.lemmas.List.{length-append, length-take, length-take-le, length-drop, length-replicate, get_or_append_left}
 pub use Rattle.std.proofs.lemmas.List.{get_or-append_right, get_or-take, get_or-drop, append_cancel_left, length-map, length_push}
 pub use Rattle.std.proofs.lemmas.List.{get_or-map, take-append-le, take_min, get_or-replicate, get_or-set_same, get_or-set_other}
-pub use Rattle.std.proofs.lemmas.List.{length-set, map-append, map-set, set-get_or, append-nil, places, map_push, drop_all, with_items_is}
-pub use Rattle.std.proofs.lemmas.List.{take_more, nil_from_length, flat_map_more}
+pub use Rattle.std.proofs.lemmas.List.{length-set, map-append, map-set, set-get_or, append-nil, places, map_push, with_items_is, take_more}
+pub use Rattle.std.proofs.lemmas.List.{nil_from_length}
+pub use Rattle.std.proofs.lemmas.List.Edits.{map_over_more}
 pub use Rattle.std.proofs.lemmas.List.Elements.{All-append, All-take, All-drop, All-replicate, All-nil, All-cons, All-weaker, All-head}
 pub use Rattle.std.proofs.lemmas.List.Elements.{All-tail, All-from_recursion, recursion_from_All, All-push, All-filter, filter_passes}
 pub use Rattle.std.proofs.lemmas.List.Elements.{All-contains, All-contains_itself, Contains-append_left, Contains-push, All-map}
@@ -49,7 +50,7 @@ pub use Rattle.std.proofs.lemmas.Map.Steps.{length-le_from_distinct_below}
 pub use Rattle.std.proofs.lemmas.Map.Text.{is_eq-slice_cmp}
 pub use Rattle.std.proofs.lemmas.Map.Views.{Contains-from_any}
 pub use Rattle.std.proofs.lemmas.Option.{none-some, same_Some, slice_get_within, get_or_from_slice_get, slice_get-get_or, slice_get_past}
-pub use Rattle.std.proofs.lemmas.Option.{slice_get_read, cond_some, MatchOption-at_some, slice_get-map, slice_get_cases, IfSome_then}
+pub use Rattle.std.proofs.lemmas.Option.{slice_get_read, cond_some, MatchOption-at_some, slice_get-map, slice_get_cases}
 pub use Rattle.std.proofs.lemmas.Result.{on_ok_weaker}
 pub use Rattle.std.proofs.lemmas.Simd.{map-map}
 pub use Rattle.std.proofs.lemmas.Slice.Eq.{starts_is, bytes_eq-Decides}

@@ -1,8 +1,15 @@
 -- The report of a run, made path by path.
-use Rattle.fs_types.proofs.Common.{◌≡◌, ℕ, ◌+◌, List, [], ◌∷◌, ◌++◌, map, take, Some, refl, sym, ap, subst, ◌∙◌, add-one, take-suc}
-use Rattle.fs_types.proofs.Common.{map-append, slice_get_within, get_or_from_slice_get, slice_get-map, slice_get, option_map}
-use Rattle.fs_script.specs.Vocabulary.{FileState, file_state_of}
-use Rattle.core_machine.specs.Vocabulary.{Moment, file_now, report_of}
+use Rattle.std.proofs.Common.{◌≡◌, ℕ, ◌+◌, List, [], ◌∷◌, ◌++◌, map, take, Some, refl, sym, ap, subst}
+use Rattle.std.proofs.Common.{◌∙◌, add-one}
+use Rattle.std.proofs.Math.Seq.{take-suc}
+use Rattle.std.proofs.lemmas.List.{map-append}
+use Rattle.std.proofs.lemmas.Option.{slice_get_within, get_or_from_slice_get, slice_get-map}
+use Rattle.std.specs.List.{slice_get}
+use Rattle.std.specs.Option.{option_map}
+use Rattle.fs_types.specs.declared.file_state.FileState.{FileState}
+use Rattle.fs_script.specs.Report.{file_state_of}
+use Rattle.core_machine.specs.Moment.{Moment, file_now}
+use Rattle.core_machine.specs.MomentReport.{report_of}
 use Rattle.top_call.specs.declared.report.JobReport.{JobReport}
 use Rattle.top_call.specs.declared.report.PathReport.{PathReport}
 use Rattle.top_call.specs.JobReport.{journal_entry, file_entry, report_view}

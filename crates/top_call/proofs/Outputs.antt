@@ -1,8 +1,15 @@
 -- What the output took of a simulated job's answer, and which status that leaves.
-use Rattle.fs_types.proofs.Common.{◌≡◌, ◌≢◌, ◌⊎◌, inl, inr, ℕ, List, Option, Some, refl, sym, subst, arith, IfSome, IsErr, IfSome_then}
-use Rattle.fs_script.specs.Vocabulary.{Status, Job}
+use Rattle.std.proofs.Common.{◌≡◌, ◌≢◌, ◌⊎◌, inl, inr, ℕ, List, Option, Some, refl, sym, subst}
+use Rattle.std.proofs.Common.{arith}
+use Rattle.std.specs.Option.{IfSome}
+use Rattle.std.specs.Result.{IsErr}
+use Rattle.std.proofs.lemmas.Option.{IfSome_then}
+use Rattle.fs_types.specs.declared.status.Status.{Status}
+use Rattle.fs_types.specs.declared.status.Status.TheVariants as statuses
+use Rattle.fs_script.specs.Job.{Job}
 use Rattle.fs_script.specs.Grammar.{IsScript}
 use Rattle.fs_script.specs.Reading.{job_of}
+use Rattle.fs_script.proofs.CallerLemmas.{script_is_job}
 use Rattle.top_call.specs.Faults.{HasRisen}
 use Rattle.top_call.specs.Told.{IsAtEnd, then_bytes}
 use Rattle.top_call.specs.declared.words.Command.{Command}
@@ -11,8 +18,6 @@ use Rattle.top_call.specs.Words.{command_of}
 use Rattle.top_call.specs.CommandAnswer.{IsSimAnswer, IsCommandAnswer, IsAnswer}
 use Rattle.top_call.specs.Output.{IsOutput, WritesAnswer}
 use Rattle.top_call.specs.Top.{InputChange, OutputChange, AsksForJob, IsTopCall}
-use Rattle.fs_script.proofs.CallerLemmas.{script_is_job}
-use Rattle.fs_types.specs.declared.status.Status.TheVariants as statuses
 
 -- what `sim` answers is what the words ask for
 IsAnswer-sim : (words : List (List ℕ)) (k : Command) (input : List ℕ) (status : Status)

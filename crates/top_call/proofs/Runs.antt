@@ -1,12 +1,18 @@
 -- Runs that go on by one event, and the journals that they leave.
-use Rattle.fs_types.proofs.Common.{◌≡◌, ℕ, zero, suc, false, cond, List, [], ◌∷◌, ◌++◌, map, Option, Some, None, refl, sym, ap, subst, ◌∙◌}
-use Rattle.fs_types.proofs.Common.{slice_get, Contains, bytes_eq, same_Some}
-use Rattle.fs_script.specs.Vocabulary.{IsPath, AreRising, journal_of, Job, op_at, Names}
-use Rattle.fs_script.specs.declared.line.OpLine.{OpLine}
+use Rattle.std.proofs.Common.{◌≡◌, ℕ, zero, suc, false, cond, List, [], ◌∷◌, ◌++◌, map, Option, Some, None, refl, sym, ap, subst, ◌∙◌}
+use Rattle.std.specs.List.{slice_get, Contains}
+use Rattle.std.specs.Str.{bytes_eq}
+use Rattle.std.proofs.lemmas.Option.{same_Some}
+use Rattle.fs_types.specs.PathText.{IsPath}
 use Rattle.fs_script.specs.Grammar.{IsJob}
-use Rattle.core_machine.specs.Vocabulary.{Moment, ready, next_line, Turn, step, step_at, step_line, HasClients, Reaches}
+use Rattle.fs_script.specs.Report.{AreRising, journal_of}
 use Rattle.fs_script.proofs.CallerLemmas.{IsOpLine-from_job}
 use Rattle.core_machine.proofs.CallerLemmas.{not_among, same_bytes, other_bytes}
+use Rattle.fs_script.specs.declared.line.OpLine.{OpLine}
+use Rattle.fs_script.specs.Job.{Job, op_at, Names}
+use Rattle.core_machine.specs.Moment.{Moment, ready, next_line}
+use Rattle.core_machine.specs.Step.{Turn, step, step_at, step_line}
+use Rattle.core_machine.specs.LegalSoFar.{HasClients, Reaches}
 
 -- a run and one more turn
 pub Reaches-push : (m n : Moment) (turns : List Turn) (t : Turn) → Reaches m turns n → Contains (ready n) t.client → Reaches m (turns ++ t ∷ []) (step n t)
@@ -41,8 +47,8 @@ entry-at (k ∷ ks) (suc i) p j rising at is =
 
 -- the paths that a job names are in the grammar
 pub IsPath-named : (s : Job) (p : List ℕ) → IsJob s → Names s p → IsPath p
-IsPath-named s p job named = subst IsPath named.on (IsOpLine-from_job named.line named.op job named.is).path
+IsPath-named s p job named = subst IsPath named.on (IsOpLine-from_job s named.line named.op job named.is).path
 
 -- and its operations are of its clients
 pub HasClients-job : (s : Job) → IsJob s → HasClients s
-HasClients-job s job n o is = (IsOpLine-from_job n o job is).rank
+HasClients-job s job n o is = (IsOpLine-from_job s n o job is).rank

@@ -1,12 +1,17 @@
 -- The texts of lists, one element after another.
-use Rattle.fs_types.proofs.Common.{◌≡◌, ◌≢◌, ℕ, suc, ◌+◌, ◌<◌, ◌≤◌, List, [], ◌∷◌, ◌++◌, map, Some, None, refl, sym, ap, subst, ◌∙◌}
-use Rattle.fs_types.proofs.Common.{append_assoc, append-nil, arith, inl, inr, if◌then◌else◌, All, codes, nat_lt, flat_map, nat_tests}
-use Rattle.fs_types.proofs.Common.{flat_map_more, All-head, All-tail}
-use Rattle.fs_script.specs.Vocabulary.{answer_at, IsRisingFrom, Answer, path_lines, answer_line, text}
+use Rattle.std.proofs.Common.{◌≡◌, ◌≢◌, ℕ, suc, ◌+◌, ◌<◌, ◌≤◌, List, [], ◌∷◌, ◌++◌, map, Some, None, refl, sym, ap, subst, ◌∙◌, append_assoc, append-nil, arith, inl, inr, if◌then◌else◌}
+use Rattle.std.specs.Prelude.{All, codes, nat_lt}
+use Rattle.std.specs.List.{flat_map}
+use Rattle.std.proofs.lemmas.Bool.Decides.{nat_tests}
+use Rattle.std.proofs.lemmas.List.{flat_map_more}
+use Rattle.std.proofs.lemmas.List.Elements.{All-head, All-tail}
+use Rattle.fs_types.specs.AnswerList.{answer_at, IsRisingFrom}
+use Rattle.fs_types.specs.declared.answer.Answer.{Answer}
+use Rattle.fs_types.proofs.CallerLemmas.{answer_at-same, answer_at-other, cases_line, answer_at-rising_below}
+use Rattle.fs_script.specs.Text.{path_lines, answer_line, text}
 use Rattle.top_call.specs.JobReport.{path_text, journal_entry, file_entry, report_view}
 use Rattle.top_call.specs.declared.report.JobReport.{JobReport}
 use Rattle.top_call.specs.declared.report.PathReport.{PathReport}
-use Rattle.fs_types.proofs.CallerLemmas.{answer_at-same, answer_at-other, cases_line, answer_at-rising_below}
 
 -- the answers to lines below n
 abbrev pub answers_below : ℕ → List (ℕ × Answer) → List (ℕ × Answer)

@@ -1,6 +1,7 @@
 -- Told bytes, one portion after another.
-use Rattle.fs_types.proofs.Common.{◌≡◌, List, [], ◌++◌, ◌+◌, ℕ, take, drop, refl, ap, sym, append_assoc, append-nil, Option, None, Some}
-use Rattle.fs_types.proofs.Common.{take-add}
+use Rattle.std.proofs.Common.{◌≡◌, List, [], ◌++◌, ◌+◌, ℕ, take, drop, refl, ap, sym, append_assoc, append-nil}
+use Rattle.std.specs.Prelude.{Option, None, Some}
+use Rattle.std.proofs.Math.Seq.{take-add}
 use Rattle.top_call.specs.Told.{bytes_then, then_bytes}
 
 -- no bytes and then the rest

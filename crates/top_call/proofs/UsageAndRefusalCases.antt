@@ -1,9 +1,10 @@
 -- The lines of refusals, by computing.
+use Rattle.std.proofs.Common.{◌≡◌, [], refl}
+use Rattle.std.specs.Prelude.{codes}
 use Rattle.std.specs.Fmt.{digits}
-use Rattle.fs_types.proofs.Common.{◌≡◌, [], refl, codes}
-use Rattle.top_call.specs.UsageAndRefusals.{refusal_line, usage_line}
 use Rattle.fs_script.specs.declared.fault.Reason.TheVariants as reasons
 use Rattle.fs_script.specs.declared.fault.ScriptFault.TheVariants as faults
+use Rattle.top_call.specs.UsageAndRefusals.{refusal_line, usage_line}
 
 usage : usage_line ≡ codes "usage: unifyfs sim SEED | run | check NAME | load N | stage NAME\n"
 usage = refl

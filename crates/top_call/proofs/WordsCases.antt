@@ -1,5 +1,6 @@
 -- Which words are commands, by computing.
-use Rattle.fs_types.proofs.Common.{◌≡◌, [], ◌∷◌, Some, None, refl, codes}
+use Rattle.std.proofs.Common.{◌≡◌, [], ◌∷◌, Some, None, refl}
+use Rattle.std.specs.Prelude.{codes}
 use Rattle.top_call.specs.declared.words.Command.TheVariants.{Sim}
 use Rattle.top_call.specs.Words.{command_of}
 

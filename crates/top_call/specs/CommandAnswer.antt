@@ -1,14 +1,17 @@
 -- What the program answers: which text goes with which status.
 use Rattle.std.specs.Prelude.{◌≡◌, ℕ, List, Option, Some, None, Err}
-use Rattle.fs_script.specs.Vocabulary.{Status, Job, Report, IsLegal, text}
+use Rattle.fs_types.specs.declared.status.Status.{Status}
+use Rattle.fs_types.specs.declared.status.Status.TheVariants as statuses
 use Rattle.fs_script.specs.declared.fault.ScriptFault.{ScriptFault}
+use Rattle.fs_script.specs.Job.{Job}
 use Rattle.fs_script.specs.Grammar.{IsScript}
 use Rattle.fs_script.specs.Reading.{job_of}
+use Rattle.fs_script.specs.Report.{Report, IsLegal}
+use Rattle.fs_script.specs.Text.{text}
 use Rattle.top_call.specs.UsageAndRefusals.{usage_line, refusal_line}
 use Rattle.top_call.specs.declared.words.Command.{Command}
 use Rattle.top_call.specs.declared.words.Command.TheVariants.{Sim}
 use Rattle.top_call.specs.Words.{command_of}
-use Rattle.fs_types.specs.declared.status.Status.TheVariants as statuses
 
 -- the input is the script of a job, and what was written is the text of a report that is legal for
 -- it, whichever clients' devices tell their bytes

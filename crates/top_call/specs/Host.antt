@@ -1,5 +1,6 @@
 -- What a host of files and devices is, and what each call on it may change.
-use Rattle.std.specs.Prelude.{ℕ, ◌≡◌, ◌≢◌, List, ◌∷◌, Option, Some, option_map}
+use Rattle.std.specs.Prelude.{ℕ, ◌≡◌, ◌≢◌, List, ◌∷◌, Option, Some}
+use Rattle.std.specs.Option.{option_map}
 use Rattle.top_call.specs.Told.{then_bytes}
 use Rattle.top_call.specs.Faults.{HasRisen}
 use Rattle.top_call.specs.Source.{IsReadOf, IsUnread}

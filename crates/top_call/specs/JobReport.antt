@@ -1,6 +1,8 @@
 -- The report that a job's parts are, and what a path adds to its text.
 use Rattle.std.specs.Prelude.{ℕ, List, ◌++◌, map}
-use Rattle.fs_script.specs.Vocabulary.{FileState, Report, journal_line, file_line}
+use Rattle.fs_types.specs.declared.file_state.FileState.{FileState}
+use Rattle.fs_script.specs.Report.{Report}
+use Rattle.fs_script.specs.Text.{journal_line, file_line}
 use Rattle.top_call.specs.declared.report.JobReport.{JobReport}
 use Rattle.top_call.specs.declared.report.PathReport.{PathReport}
 

@@ -1,10 +1,10 @@
 -- What the output took of the text that goes with a status.
 use Rattle.std.specs.Prelude.{◌≡◌, ◌⊎◌, ℕ, List, Option}
-use Rattle.fs_script.specs.Vocabulary.{Status}
+use Rattle.fs_types.specs.declared.status.Status.{Status}
+use Rattle.fs_types.specs.declared.status.Status.TheVariants as statuses
 use Rattle.top_call.specs.Told.{then_bytes}
 use Rattle.top_call.specs.Sink.{TookFront}
 use Rattle.top_call.specs.CommandAnswer.{IsAnswer}
-use Rattle.fs_types.specs.declared.status.Status.TheVariants as statuses
 
 -- the text of a status was written, whole
 pub record IsWritten (words : List (List ℕ)) (input : List ℕ) (status : Status)

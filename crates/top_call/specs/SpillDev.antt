@@ -1,7 +1,7 @@
 -- The cells of a device: at each place the byte that was written, or `None` where nothing may be
 -- read.
-use Rattle.std.specs.Prelude.{ℕ, ◌≡◌, ◌+◌, List, ◌++◌, length, take, drop, map, All, Option, Some, IsSome, IfSome, slice_range, option_map}
-use Rattle.std.specs.Option.{ForSome}
+use Rattle.std.specs.Prelude.{ℕ, ◌≡◌, ◌+◌, List, ◌++◌, length, take, drop, map, All, Option, Some, IsSome, IfSome, slice_range}
+use Rattle.std.specs.Option.{option_map, ForSome}
 
 -- the same cells but for these, which lie from this place on
 abbrev pub put_cells : ℕ → List (Option ℕ) → List (Option ℕ) → List (Option ℕ)

@@ -1,6 +1,9 @@
 -- The contract of the call that the program makes, in one place for every function that keeps it.
 use Rattle.std.specs.Prelude.{◌≡◌, ◌≢◌, ◌⊎◌, ℕ, List, Option, Some, None, IfSome, IsErr}
-use Rattle.fs_script.specs.Vocabulary.{Status, Done, Usage, ReadFault, WriteFault, Memory, Job}
+use Rattle.fs_types.specs.declared.status.Status.{Status}
+use Rattle.fs_types.specs.declared.status.Status.TheVariants.{Done, Usage, ReadFault, WriteFault}
+use Rattle.fs_types.specs.declared.status.Status.TheVariants.{Memory}
+use Rattle.fs_script.specs.Job.{Job}
 use Rattle.fs_script.specs.Grammar.{IsScript}
 use Rattle.fs_script.specs.Reading.{job_of}
 use Rattle.top_call.specs.Faults.{HasRisen}

@@ -1,10 +1,10 @@
 -- The lines that are written where the program does not run a job.
 use Rattle.std.specs.Prelude.{ℕ, List, [], ◌++◌, codes}
 use Rattle.std.specs.Fmt.{decimal}
-use Rattle.fs_script.specs.Vocabulary.{line_feed}
+use Rattle.fs_script.specs.Text.{line_feed}
 use Rattle.fs_script.specs.declared.fault.Reason.{Reason}
-use Rattle.fs_script.specs.declared.fault.ScriptFault.{ScriptFault}
 use Rattle.fs_script.specs.declared.fault.Reason.TheVariants as reasons
+use Rattle.fs_script.specs.declared.fault.ScriptFault.{ScriptFault}
 use Rattle.fs_script.specs.declared.fault.ScriptFault.TheVariants as faults
 
 -- the commands, for words that are none of them

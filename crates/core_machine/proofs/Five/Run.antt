@@ -51,5 +51,4 @@ five_run =
     (first, (first, (first, (first, refl))))
 
 five_report_is_legal : IsLegal five_lines (report_of ended) []
-five_report_is_legal =
-    runs-legal [] five_lines start ended four_turns five_clients five_first five_run refl refl
+five_report_is_legal = runs-legal [] five_lines start ended four_turns five_clients five_first five_run refl refl

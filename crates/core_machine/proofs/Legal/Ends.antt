@@ -38,8 +38,7 @@ no_operation s n past = false_from_ne_true (is_some (op_at s n)) (λ is.
 module _ {told : List ℕ} {m : Moment} (so_far : IsLegalMoment told m)
     (none : ready m ≡ []) (going : m.spent ≡ false) where
   -- a client whose next line's phase has begun would be ready
-  none_comes : (r n : ℕ) → r < m.job.shape.clients → next_line m r ≡ Some n
-      → has_begun m n ≡ true → ⊥
+  none_comes : (r n : ℕ) → r < m.job.shape.clients → next_line m r ≡ Some n → has_begun m n ≡ true → ⊥
   none_comes r n within next begun =
       let comes = λ (i : ℕ). may_come m (next_line m i) in
       let passes = ap (may_come m) next ∙ begun in
@@ -49,8 +48,7 @@ module _ {told : List ℕ} {m : Moment} (so_far : IsLegalMoment told m)
 
   -- an operation has an answer where each before it has one, since its client isn't ready
   answered-next : (n : ℕ) (o : OpLine) → op_at m.job n ≡ Some o
-      → ((k : ℕ) (l : OpLine) → k < n → op_at m.job k ≡ Some l → IsSome (printed m k))
-      → IsSome (printed m n)
+      → ((k : ℕ) (l : OpLine) → k < n → op_at m.job k ≡ Some l → IsSome (printed m k)) → IsSome (printed m n)
   answered-next n o is earlier = elim (cases_Bool (is_some (printed m n))) [
     | inl given ↦ given
     | inr fresh ↦
@@ -71,11 +69,9 @@ module _ {told : List ℕ} {m : Moment} (so_far : IsLegalMoment told m)
       ]
 
   -- so each below a line has one
-  answered-below : (below n : ℕ) (o : OpLine) → n < below → op_at m.job n ≡ Some o
-      → IsSome (printed m n)
+  answered-below : (below n : ℕ) (o : OpLine) → n < below → op_at m.job n ≡ Some o → IsSome (printed m n)
   answered-below zero n o lt is = absurd (omega arith)
-  answered-below (suc below) n o lt is =
-      answered-next n o is (λ k l before op. answered-below below k l (omega arith) op)
+  answered-below (suc below) n o lt is = answered-next n o is (λ k l before op. answered-below below k l (omega arith) op)
 
   unanswered : (n : ℕ) → is_some (op_at m.job n) ≡ false → printed m n ≡ None
   unanswered n not_one = none_from-is_some (printed m n) (false_from_ne_true (is_some (printed m n))

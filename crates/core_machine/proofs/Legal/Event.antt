@@ -61,12 +61,10 @@ IsLegalEvent k op e = IsLegalOutcome k op e.answer e.commits
 
 module _ (k : NextLine) where
   front-in_journal : (now k).front ≤ length k.journal
-  front-in_journal =
-      front-le-length_fit k.line.rank k.number k.fit
+  front-in_journal = front-le-length_fit k.line.rank k.number k.fit
 
   MayPrint-from : (v : ℕ) → (now k).front ≤ v → v ≤ length k.journal → MayPrint k false v
-  MayPrint-from v =
-      IsInReach-now k.line v k.legal k.next k.is k.later
+  MayPrint-from v = IsInReach-now k.line v k.legal k.next k.is k.later
 
   pub MayPrint-front : MayPrint k false (now k).front
   MayPrint-front = MayPrint-from (now k).front (omega arith) front-in_journal
@@ -87,10 +85,8 @@ not_done op q a none = cond_both (commits op q) _ _ (λ v. v ≡ None) (λ _. no
 
 module _ {k : NextLine} {op : Op} where
   -- it commits nothing
-  pub kept : (a : Answer)
-      → AgreesWithOpen op (now k).is_open a → IfSome (version_of a) (MayPrint k false)
-      → IsInTable (AreTold k.job k.told) (view_then k false) op a
-      → commit_of op (now k).pending a ≡ None → IsLegalAnswer k op a false
+  pub kept : (a : Answer) → AgreesWithOpen op (now k).is_open a → IfSome (version_of a) (MayPrint k false)
+      → IsInTable (AreTold k.job k.told) (view_then k false) op a → commit_of op (now k).pending a ≡ None → IsLegalAnswer k op a false
   kept a opened version answer none = record {
     opened = opened;
     version = version;
@@ -101,8 +97,7 @@ module _ {k : NextLine} {op : Op} where
 
   -- it commits the line, as the version after the last
   pub committed : AgreesWithOpen op (now k).is_open (answers.Done ((now k).version + 1))
-      → commits op (now k).pending ≡ true → is_enabled op (now k).file ≡ true
-      → IsLegalAnswer k op (answers.Done ((now k).version + 1)) true
+      → commits op (now k).pending ≡ true → is_enabled op (now k).file ≡ true → IsLegalAnswer k op (answers.Done ((now k).version + 1)) true
   committed opened commits_it enabled = rw add-one (record {
     opened = opened;
     version = MayPrint-new k;

@@ -11,8 +11,7 @@ pub mod Write
 pub mod Sync
 pub mod Read
 
-pub event_of-legal : (k : NextLine) (op : Op)
-    → IsLegalEvent k op (event_of k.job.shape.chunk (now k) op)
+pub event_of-legal : (k : NextLine) (op : Op) → IsLegalEvent k op (event_of k.job.shape.chunk (now k) op)
 event_of-legal k ops.Create = create-legal k
 event_of-legal k (ops.Write off text) = write-legal k off text
 event_of-legal k ops.Sync = sync-legal k

@@ -7,8 +7,7 @@ use Rattle.core_machine.specs.Vocabulary.{with_entry}
 use Rattle.core_machine.proofs.Paths.{same_bytes, other_bytes}
 
 -- the paths stay
-pub paths-with_entry : (p : List ℕ) (n : ℕ) (js : List (List ℕ × List ℕ))
-    → map (λ j. j.0) (with_entry p n js) ≡ map (λ j. j.0) js
+pub paths-with_entry : (p : List ℕ) (n : ℕ) (js : List (List ℕ × List ℕ)) → map (λ j. j.0) (with_entry p n js) ≡ map (λ j. j.0) js
 paths-with_entry p n [] = refl
 paths-with_entry p n (j ∷ js) =
     let rest = ap (λ ps. j.0 ∷ ps) (paths-with_entry p n js) in

@@ -7,8 +7,7 @@ use Rattle.core_machine.specs.Vocabulary.{OpLine, Moment, printed, has_begun}
 use Rattle.fs_script.proofs.CallerLemmas.{some_of, op_at-within, passing-place}
 
 -- a number of a range that passes a test is among those that do
-pub Contains-passing : (P : ℕ → Bool) (a len n : ℕ) → P n ≡ true → a ≤ n → n < a + len
-    → Contains (filter P (range_with_len a len)) n
+pub Contains-passing : (P : ℕ → Bool) (a len n : ℕ) → P n ≡ true → a ≤ n → n < a + len → Contains (filter P (range_with_len a len)) n
 Contains-passing P a len n e from to =
     let ns = filter P (range_with_len a len) in
     let at = passing-place P a len n e from to in
@@ -19,9 +18,7 @@ abbrev pub lets_begin : Moment → ℕ → ℕ → Bool
 lets_begin m n k = is_some (printed m k) || leb (phase m.job n) (phase m.job k)
 
 -- where that is so of each operation, the phase of line n has begun
-pub has_begun-from : (m : Moment) (n : ℕ)
-    → ((k : ℕ) (o : OpLine) → op_at m.job k ≡ Some o → lets_begin m n k ≡ true)
-    → has_begun m n ≡ true
+pub has_begun-from : (m : Moment) (n : ℕ) → ((k : ℕ) (o : OpLine) → op_at m.job k ≡ Some o → lets_begin m n k ≡ true) → has_begun m n ≡ true
 has_begun-from m n each =
     list_all-from_AllPass (lets_begin m n) (op_lines m.job)
     (All-weaker (λ k. IsSome (op_at m.job k)) (λ k. lets_begin m n k ≡ true)

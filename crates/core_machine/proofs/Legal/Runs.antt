@@ -12,14 +12,11 @@ use Rattle.core_machine.proofs.Legal.Ends.{report-legal}
 
 -- ---- the first moment
 
-empty-journals : (js : List (List ℕ × List ℕ)) (p : List ℕ)
-    → AllByRecursion (λ j. j.1 ≡ []) js → journal_of js p ≡ []
+empty-journals : (js : List (List ℕ × List ℕ)) (p : List ℕ) → AllByRecursion (λ j. j.1 ≡ []) js → journal_of js p ≡ []
 empty-journals [] p all = refl
-empty-journals (j ∷ js) p all =
-    cond_both (bytes_eq j.0 p) _ _ (λ J. J ≡ []) (λ _. all.0) (λ _. empty-journals js p all.1)
+empty-journals (j ∷ js) p all = cond_both (bytes_eq j.0 p) _ _ (λ J. J ≡ []) (λ _. all.0) (λ _. empty-journals js p all.1)
 
-first-legal : (told : List ℕ) {m : Moment} → HasClients m.job → IsFirst m.job m
-    → IsLegalMoment told m
+first-legal : (told : List ℕ) {m : Moment} → HasClients m.job → IsFirst m.job m → IsLegalMoment told m
 first-legal told {m} clients first =
     let none : (n : ℕ) → printed m n ≡ None = λ n. ap (λ xs. answer_at xs n) first.answers in
     record {
@@ -51,8 +48,7 @@ run-legal {told} m n (turn ∷ turns) so_far run =
 
 -- what it reports at its end is legal
 pub runs-legal : (told : List ℕ) (s : Job) (m n : Moment) (turns : List Turn)
-    → HasClients s → IsFirst s m → Reaches m turns n → ready n ≡ [] → n.spent ≡ false
-    → IsLegal s (report_of n) told
+    → HasClients s → IsFirst s m → Reaches m turns n → ready n ≡ [] → n.spent ≡ false → IsLegal s (report_of n) told
 runs-legal told s m n turns clients first run none going =
     let own = sym first.job in
     let begins = subst (λ j. IsFirst j m) own first in

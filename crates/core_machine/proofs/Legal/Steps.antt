@@ -4,8 +4,8 @@ use Rattle.fs_types.proofs.Common.{Contains, refl, sym, ap, ◌∙◌, subst, su
 use Rattle.fs_types.proofs.Common.{get_or-set_other, length-set}
 use Rattle.fs_script.specs.Vocabulary.{Answer, answer_at, put_answer, op_at, phase, Answering, pending, commit_of, commit_by, journal_of}
 use Rattle.fs_script.specs.Vocabulary.{ArePaths, AddsAnswer, IsLegalSoFar, IsNextAnswer}
-use Rattle.core_machine.specs.Vocabulary.{Doing, Client, Moment, fresh_client, printed, answering, client_of, with_entry, ready}
-use Rattle.core_machine.specs.Vocabulary.{Event, Turn, event_at, after_turn, after_event, step, IsAnsweredUpTo, IsLegalMoment}
+use Rattle.core_machine.specs.Vocabulary.{Doing, Client, Moment, fresh_client, printed, answering, client_of, with_entry, ready, Event}
+use Rattle.core_machine.specs.Vocabulary.{Turn, event_at, after_turn, after_event, step, IsAnsweredUpTo, IsLegalMoment}
 use Rattle.fs_types.proofs.CallerLemmas.{IsRisingFrom-put_answer}
 use Rattle.fs_script.proofs.CallerLemmas.{pending-agree, AddsAnswer-put, AgreeBefore-next, IsLegalSoFar-kept, IsLegalSoFar-commit}
 use Rattle.core_machine.proofs.Legal.Event.{now, IsLegalAnswer, IsLegalOutcome}
@@ -79,8 +79,7 @@ module _ {told : List ℕ} {m : Moment} {r : ℕ} (t : IsTurn told m r) (a : Ans
   adds = AddsAnswer-put m.answers n a
 
   -- another client's place stays
-  other_place : (i : ℕ) → i ≢ r → i < m.job.shape.clients
-      → IsAnsweredUpTo m.job B i (client_of m i).place
+  other_place : (i : ℕ) → i ≢ r → i < m.job.shape.clients → IsAnsweredUpTo m.job B i (client_of m i).place
   other_place i other within =
       let apart : o.rank ≢ i = λ e. other (sym e ∙ t.rank) in
       upto-other m.job i (client_of m i).place o adds is apart (so_far.places i within)
@@ -98,8 +97,7 @@ module _ {told : List ℕ} {m : Moment} {r : ℕ} (t : IsTurn told m r) (a : Ans
     | inr other ↦ ap is_some (adds.others i other) ∙ given
   ]
 
-  phases-after : (i j : ℕ) → IsSome (B i) → IsSome (op_at m.job j)
-      → phase m.job j < phase m.job i → IsSome (B j)
+  phases-after : (i j : ℕ) → IsSome (B i) → IsSome (op_at m.job j) → phase m.job j < phase m.job i → IsSome (B j)
   phases-after i j given there before = still_answered j (elim (cases_eq i n) [
     | inl here ↦
         begun-answered m n j t.begun there (subst (λ l. phase m.job j < phase m.job l) here before)
@@ -111,8 +109,7 @@ module _ {told : List ℕ} {m : Moment} {r : ℕ} (t : IsTurn told m r) (a : Ans
   journals_after committed = cond committed (with_entry o.path n m.journals) m.journals
 
   paths-after : (committed : Bool) → ArePaths m.job (map (λ j. j.0) (journals_after committed))
-  paths-after true =
-      subst (ArePaths m.job) (sym (paths-with_entry o.path n m.journals)) so_far.paths
+  paths-after true = subst (ArePaths m.job) (sym (paths-with_entry o.path n m.journals)) so_far.paths
   paths-after false = so_far.paths
 
   next_answer : IsNextAnswer m.job (answering m) n o a B
@@ -124,8 +121,7 @@ module _ {told : List ℕ} {m : Moment} {r : ℕ} (t : IsTurn told m r) (a : Ans
   commit-after =
       let agree = AgreeBefore-next m.job o.rank o.path n adds (omega arith) in
       let same = pending-agree m.job o.rank o.path (answering m) B n agree in
-      ap (commit_by o.op (pending m.job B o.rank o.path n)) adds.added
-      ∙ ap (λ q. commit_of o.op q a) (sym same)
+      ap (commit_by o.op (pending m.job B o.rank o.path n)) adds.added ∙ ap (λ q. commit_of o.op q a) (sym same)
 
   legal-after : (committed : Bool) → IsLegalAnswer (coming t) o.op a committed
       → IsLegalSoFar told m.job B (journal_of (journals_after committed))
@@ -154,8 +150,7 @@ module _ {told : List ℕ} {m : Moment} {r : ℕ} (t : IsTurn told m r) (a : Ans
 -- ---- a step
 
 after_event-legal : {told : List ℕ} {m : Moment} {r : ℕ} (t : IsTurn told m r)
-    (answer : Option Answer) (committed : Bool) (doing : Doing)
-    → IsLegalOutcome (coming t) t.line.op answer committed
+    (answer : Option Answer) (committed : Bool) (doing : Doing) → IsLegalOutcome (coming t) t.line.op answer committed
     → IsLegalMoment told (after t (record { answer = answer; commits = committed; doing = doing }))
 after_event-legal t None committed doing none = rw none (unanswered-legal t doing)
 after_event-legal t (Some a) committed doing legal = answered-legal t a committed doing legal

@@ -33,14 +33,12 @@ ready-may_come m r has =
     (λ _ none. absurd (omega arith))
     (λ _. All-contains (λ i. comes i ≡ true) (filter comes all) r (filter_passes comes all)) has
 
-line-of : (m : Moment) (x : Option ℕ) → may_come m x ≡ true
-    → (n : ℕ) × (x ≡ Some n) × (has_begun m n ≡ true)
+line-of : (m : Moment) (x : Option ℕ) → may_come m x ≡ true → (n : ℕ) × (x ≡ Some n) × (has_begun m n ≡ true)
 line-of m None h = absurd (true≢false (sym h))
 line-of m (Some n) h = (n, refl, h)
 
 -- a client that is ready has a turn
-pub IsTurn-from_ready : {told : List ℕ} {m : Moment} (r : ℕ)
-    → IsLegalMoment told m → Contains (ready m) r → IsTurn told m r
+pub IsTurn-from_ready : {told : List ℕ} {m : Moment} (r : ℕ) → IsLegalMoment told m → Contains (ready m) r → IsTurn told m r
 IsTurn-from_ready {m} r so_far has =
     let next = line-of m (next_line m r) (ready-may_come m r has) in
     let op = program-op m.job r (client_of m r).place next.0 next.1 in

@@ -1,7 +1,7 @@
 -- The places after a client's next line was answered: the lines that come next, and who goes.
 use Rattle.fs_types.proofs.Common.{◌≡◌, ℕ, ◌+◌, ◌<◌, ◌≤◌, Bool, true, false, List, [], ◌∷◌, cond, not, length, filter, Some, slice_get}
-use Rattle.fs_types.proofs.Common.{slice_index, refl, sym, ap, ◌∙◌, inl, inr, arith, ◌==◌, ◌&&◌, range_with_len, and_right}
-use Rattle.fs_types.proofs.Common.{cases_eq, eq-eqb, ne_eqb, get_or-set_same, get_or-set_other, filter_agree}
+use Rattle.fs_types.proofs.Common.{slice_index, refl, sym, ap, ◌∙◌, inl, inr, arith, ◌==◌, ◌&&◌, range_with_len, and_right, cases_eq}
+use Rattle.fs_types.proofs.Common.{eq-eqb, ne_eqb, get_or-set_same, get_or-set_other, filter_agree}
 use Rattle.fs_script.specs.Vocabulary.{op_at, is_of_rank, phase, program}
 use Rattle.core_machine.specs.Vocabulary.{Places, next_in, is_of_phase, going, after_line, IsInPhase}
 use Rattle.fs_script.proofs.CallerLemmas.{phase-rises, passing-rise}
@@ -19,8 +19,7 @@ and-true true = refl
 and-true false = refl
 
 -- what passes both tests
-filter-filter : (p q both : ℕ → Bool) → ((x : ℕ) → both x ≡ (q x && p x)) → (xs : List ℕ)
-    → filter both xs ≡ filter q (filter p xs)
+filter-filter : (p q both : ℕ → Bool) → ((x : ℕ) → both x ≡ (q x && p x)) → (xs : List ℕ) → filter both xs ≡ filter q (filter p xs)
 filter-filter p q both is [] = refl
 filter-filter p q both is (x ∷ xs) =
     let ys = filter p xs in
@@ -32,13 +31,13 @@ filter-filter p q both is (x ∷ xs) =
 
 module _ (v : Places) (r n : ℕ) (within : r < length v.places) (goes : Goes v r n) where
   -- no next line is of an earlier phase
-  pub none_earlier-advanced : IsInPhase v → (q m : ℕ) → next_in (after_line v r) q ≡ Some m
-      → v.phase ≤ phase v.job m
+  pub none_earlier-advanced : IsInPhase v → (q m : ℕ) → next_in (after_line v r) q ≡ Some m → v.phase ≤ phase v.job m
   none_earlier-advanced in_phase q m next = elim (cases_eq q r) [
     | inl is ↦
         let place = slice_index v.places r in
         let own = sym (next_in-own v r within) ∙ ap (next_in (after_line v r)) (sym is) ∙ next in
-        let later = passing-rise (λ i. is_of_rank r (op_at v.job i)) 2 (length v.job.lines) place (place + 1) n m (omega arith) goes.next own in
+        let later = passing-rise (λ i. is_of_rank r (op_at v.job i)) 2 (length v.job.lines) place (place + 1) n m (omega arith) goes.next
+        own in
         omega (arith, phase-rises v.job n m (omega arith), goes.of_phase)
     | inr other ↦ in_phase.none_earlier q m (sym (next_in-other v r q other) ∙ next)
   ]
@@ -52,8 +51,7 @@ module _ (v : Places) (r n : ℕ) (within : r < length v.places) (goes : Goes v 
       ]) (range_with_len 0 v.job.shape.clients)
 
   -- where it has none in this phase, the others go
-  pub going-leaves : goes_in (after_line v r) r ≡ false
-      → going (after_line v r) ≡ filter (λ q. not (q == r)) (going v)
+  pub going-leaves : goes_in (after_line v r) r ≡ false → going (after_line v r) ≡ filter (λ q. not (q == r)) (going v)
   going-leaves of = filter-filter (goes_in v) (λ q. not (q == r)) (goes_in (after_line v r))
       (λ q. elim (cases_eq q r) [
         | inl is ↦ rw (eq-eqb q r is) (ap (goes_in (after_line v r)) is ∙ of)

@@ -16,8 +16,7 @@ pub record Goes (v : Places) (r n : ℕ) : Type 0 where
   pub of_phase : phase v.job n ≡ v.phase
 
 -- a line of a phase is one
-pub line-of_phase : (s : Job) (k : ℕ) (x : Option ℕ) → is_of_phase s k x ≡ true
-    → (n : ℕ) × (x ≡ Some n) × (phase s n ≡ k)
+pub line-of_phase : (s : Job) (k : ℕ) (x : Option ℕ) → is_of_phase s k x ≡ true → (n : ℕ) × (x ≡ Some n) × (phase s n ≡ k)
 line-of_phase s k None of = absurd (true≢false (sym of))
 line-of_phase s k (Some n) of = (n, refl, eqb-true (phase s n) k of)
 
@@ -39,8 +38,7 @@ none-goes {v} {r} {n} empty within goes =
     none-some r (sym (ap (λ (rs : List ℕ). slice_get rs place.0) empty) ∙ place.1)
 
 -- the run is in a phase where some client goes and no next line is of an earlier one
-pub IsInPhase-from_some : (v : Places) → ((r n : ℕ) → next_in v r ≡ Some n → v.phase ≤ phase v.job n)
-    → (going v ≡ [] → ⊥) → IsInPhase v
+pub IsInPhase-from_some : (v : Places) → ((r n : ℕ) → next_in v r ≡ Some n → v.phase ≤ phase v.job n) → (going v ≡ [] → ⊥) → IsInPhase v
 IsInPhase-from_some v none_earlier some = record { none_earlier = none_earlier; none_left = λ empty. absurd (some empty) }
 
 -- ---- the clients one by one
@@ -52,8 +50,7 @@ module _ (test : ℕ → Bool) (n : ℕ) where
       let range = ap (range_with_len 0) longer ∙ sym (range-push 0 n) ∙ ap (λ m. range_with_len 0 n ++ m ∷ []) (zero-add n) in
       ap (filter test) range ∙ filter-append test (range_with_len 0 n) (n ∷ [])
 
-  pub clients-push : test n ≡ true
-      → filter test (range_with_len 0 (n + 1)) ≡ filter test (range_with_len 0 n) ++ n ∷ []
+  pub clients-push : test n ≡ true → filter test (range_with_len 0 (n + 1)) ≡ filter test (range_with_len 0 n) ++ n ∷ []
   clients-push passes = clients-more ∙ ap (λ b. filter test (range_with_len 0 n) ++ cond b (n ∷ []) []) passes
 
   pub clients-skip : test n ≡ false → filter test (range_with_len 0 (n + 1)) ≡ filter test (range_with_len 0 n)

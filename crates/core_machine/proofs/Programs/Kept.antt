@@ -4,8 +4,8 @@ use Rattle.fs_types.proofs.Common.{vec_capacity, Some, IsSome, is_some, slice_ge
 use Rattle.fs_types.proofs.Common.{inr, arith, ◌==◌, slice_set, map-set_same, cases_eq, length-map, map-set, get_or-set_same}
 use Rattle.fs_types.proofs.Common.{get_or-set_other, same_Some, slice_get_read, slice_get_within}
 use Rattle.fs_script.specs.Vocabulary.{phase, program}
-use Rattle.core_machine.specs.Vocabulary.{Program, Inside, Places, next_in, is_of_phase, going, IsInPhase, IsLeast, next_of, next_phases, after_line}
-use Rattle.core_machine.specs.Vocabulary.{ArePrograms, places_of, IsKept}
+use Rattle.core_machine.specs.Vocabulary.{Program, Inside, Places, next_in, is_of_phase, going, IsInPhase, IsLeast, next_of, next_phases}
+use Rattle.core_machine.specs.Vocabulary.{after_line, ArePrograms, places_of, IsKept}
 use Rattle.core_machine.proofs.Programs.Going.{Goes, Goes-from_Contains, none-goes, IsInPhase-from_some}
 use Rattle.core_machine.proofs.Programs.NextLines.{next_in-within, length-programs, lines-at, place-at, next_of-read, Goes-least}
 use Rattle.core_machine.proofs.Programs.NextLines.{going-least, IsInPhase-least, IsInPhase-none}
@@ -115,15 +115,13 @@ module _ {t : Inside} {r : ℕ} {w : Places} {i : ℕ} {p q : Program} (advances
       next_in-own old r within ∙ ap (slice_get (program t.script.now r)) (sym place-new)
       ∙ ap (λ (ls : List ℕ). slice_get ls q.place) (sym lines)
 
-  none_earlier-new : (j m : ℕ) → next_in (places_of t.script.now new t.phase) j ≡ Some m
-      → t.phase ≤ phase t.script.now m
+  none_earlier-new : (j m : ℕ) → next_in (places_of t.script.now new t.phase) j ≡ Some m → t.phase ≤ phase t.script.now m
   none_earlier-new =
       let after = none_earlier-advanced old r line.0 within line.1 advances.ready.kept.phase in
       subst (λ v. (j m : ℕ) → next_in v j ≡ Some m → t.phase ≤ phase t.script.now m) (sym new-is) after
 
   -- what is left to know are the clients that go, and that the run is in the phase
-  IsKept-new : (k : ℕ) (rest : Vec ℕ Global) → rest.items ≡ going (places_of t.script.now new k)
-      → vec_capacity t.ready ≤ vec_capacity rest
+  IsKept-new : (k : ℕ) (rest : Vec ℕ Global) → rest.items ≡ going (places_of t.script.now new k) → vec_capacity t.ready ≤ vec_capacity rest
       → IsInPhase (places_of t.script.now new k) → IsKept t.script.now new k rest.items (vec_capacity rest)
   IsKept-new k rest ready enough in_phase = record {
     job = advances.ready.kept.job;
@@ -144,10 +142,10 @@ module _ {t : Inside} {r : ℕ} {w : Places} {i : ℕ} {p q : Program} (advances
 
   -- another phase begins, and these clients go in it
   module _ (k : ℕ) (least : IsLeast (next_phases t.script.now new) k) where
-    pub IsKept-begins : (rest : Vec ℕ Global) → rest.items ≡ going (places_of t.script.now new k)
-        → vec_capacity t.ready ≤ vec_capacity rest
+    pub IsKept-begins : (rest : Vec ℕ Global) → rest.items ≡ going (places_of t.script.now new k) → vec_capacity t.ready ≤ vec_capacity rest
         → IsKept t.script.now new k rest.items (vec_capacity rest)
-    IsKept-begins rest ready enough = IsKept-new k rest ready enough (IsInPhase-least t.script.now new are-new advances.ready.kept.job k least)
+    IsKept-begins rest ready enough = IsKept-new k rest ready enough
+        (IsInPhase-least t.script.now new are-new advances.ready.kept.job k least)
 
     pub some-begin : going (places_of t.script.now new k) ≡ [] → ⊥
     some-begin = going-least t.script.now new are-new advances.ready.kept.job k least
@@ -177,8 +175,7 @@ module _ {t : Inside} {r : ℕ} {w : Places} {i : ℕ} {p q : Program} {rest : V
       (IsInPhase-from_some (places_of t.script.now left t.phase) (none_earlier-new leaves.advances) (λ empty. some (others-go ∙ empty)))
 
   -- no client has a line left
-  pub IsKept-ends : next_phases t.script.now left ≡ []
-      → IsKept t.script.now left t.phase rest.items (vec_capacity rest)
+  pub IsKept-ends : next_phases t.script.now left ≡ [] → IsKept t.script.now left t.phase rest.items (vec_capacity rest)
   IsKept-ends none = IsKept-new leaves.advances t.phase rest others-go leaves.enough
       (IsInPhase-none t.script.now left (are-new leaves.advances) leaves.advances.ready.kept.job t.phase none)
 

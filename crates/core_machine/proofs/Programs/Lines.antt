@@ -29,8 +29,7 @@ map-with_program_line n r o ps p q rank lt more =
     map-set lines ps r q ∙ ap (set (map lines ps) r) (more ∙ ap (λ (ns : List ℕ). ns ++ n ∷ []) (sym (get_or-map lines ps r p [] lt)))
     ∙ ap (λ i. set (map lines ps) i (get_or (map lines ps) i [] ++ n ∷ [])) rank
 
-length-with_program_line : (n : ℕ) (x : Option OpLine) (ls : List (List ℕ))
-    → length (with_program_line n x ls) ≡ length ls
+length-with_program_line : (n : ℕ) (x : Option OpLine) (ls : List (List ℕ)) → length (with_program_line n x ls) ≡ length ls
 length-with_program_line n None ls = refl
 length-with_program_line n (Some o) ls = length-set ls o.rank (get_or ls o.rank [] ++ n ∷ [])
 
@@ -45,20 +44,21 @@ with_program_line-at n (Some o) ls r lt = elim (cases_eq o.rank r) [
 ]
 
 -- with line n each program has its lines before line n + 1
-pub with_program_line-more : (s : Job) (n : ℕ) (ls : List (List ℕ)) → 2 ≤ n
-    → ls ≡ map (lines_before s n) (range_with_len 0 s.shape.clients)
+pub with_program_line-more : (s : Job) (n : ℕ) (ls : List (List ℕ)) → 2 ≤ n → ls ≡ map (lines_before s n) (range_with_len 0 s.shape.clients)
     → with_program_line n (op_at s n) ls ≡ map (lines_before s (n + 1)) (range_with_len 0 s.shape.clients)
 with_program_line-more s n ls from is =
     let clients = s.shape.clients in
     let before = map (lines_before s n) (range_with_len 0 clients) in
     let sized = length-map-range_with_len (lines_before s n) 0 clients in
     let now = with_program_line n (op_at s n) before in
-    let each : (r : ℕ) → r < clients → get_or now r [] ≡ lines_before s (n + 1) r = λ r lt. (let was = get_or-map-range_with_len (lines_before s n) 0 clients r r [] lt (omega arith) in
+    let each : (r : ℕ) → r < clients → get_or now r [] ≡ lines_before s (n + 1) r =
+    λ r lt. (let was = get_or-map-range_with_len (lines_before s n) 0 clients r r [] lt (omega arith) in
     with_program_line-at n (op_at s n) before r (omega arith) ∙ rw was (sym (lines_before-more s n r from))) in
-    ap (with_program_line n (op_at s n)) is ∙ fill_by_all (lines_before s (n + 1)) now clients [] (length-with_program_line n (op_at s n) before ∙ sized) each
+    ap (with_program_line n (op_at s n)) is ∙ fill_by_all (lines_before s (n + 1)) now clients []
+    (length-with_program_line n (op_at s n) before ∙ sized) each
 
 -- before the first line each is empty
-pub map-lines_before-first : (s : Job) (clients : ℕ)
-    → replicate clients [] ≡ map (lines_before s 2) (range_with_len 0 clients)
+pub map-lines_before-first : (s : Job) (clients : ℕ) → replicate clients [] ≡ map (lines_before s 2) (range_with_len 0 clients)
 map-lines_before-first s clients =
-    fill_by_all (lines_before s 2) (replicate clients []) clients [] (length-replicate clients []) (λ r lt. get_or-replicate clients r [] [] lt)
+    fill_by_all (lines_before s 2) (replicate clients []) clients [] (length-replicate clients [])
+    (λ r lt. get_or-replicate clients r [] [] lt)

@@ -14,7 +14,8 @@ pub record Grows (n : ℕ) (commits : Bool) (x y : OwnedPath) : Type 0 where
 
 -- ---- a client whose line it isn't, on this path
 
-pub StandsForClient-other : {s : Job} {A B : Answering} {now n : ℕ} {o : OpLine} {a : Answer} {commits : Bool} {r : ℕ} {p : List ℕ} {x y : OwnedPath} {k : ClientPath} → IsNewAnswer s A now n o a B
+pub StandsForClient-other : {s : Job} {A B : Answering} {now n : ℕ} {o : OpLine} {a : Answer} {commits : Bool} {r : ℕ} {p : List ℕ}
+    {x y : OwnedPath} {k : ClientPath} → IsNewAnswer s A now n o a B
     → own_at s r p n ≡ None → Grows n commits x y → StandsForOwner s A now x → StandsForClient s A r p x k → StandsForClient s B r p y k
 StandsForClient-other {s} {A} {B} {n} {a} {commits} {r} {p} {x} {k} h none grows owned stands =
     let agree = AgreeBefore-elsewhere s r p A B n a (end_of s) h.adds none in
@@ -38,25 +39,37 @@ pub record IsOwn (s : Job) (A : Answering) (r : ℕ) (p : List ℕ) (n : ℕ) (o
   pub within : n < end_of s
 
 -- its answer is one step more
-over_answers-own : {X : Type 0} (step : Op → Answer → ℕ → X → X) (x : X) {s : Job} {A B : Answering} {r : ℕ} {p : List ℕ} {n : ℕ} {o : OpLine} {a : Answer}
-    → AddsAnswer A n a B → IsOwn s A r p n o → over_answers step x s B r p (end_of s) ≡ step o.op a n (over_answers step x s A r p (end_of s))
+over_answers-own : {X : Type 0} (step : Op → Answer → ℕ → X
+    → X) (x : X) {s : Job} {A B : Answering} {r : ℕ} {p : List ℕ} {n : ℕ} {o : OpLine} {a : Answer}
+    → AddsAnswer A n a B → IsOwn s A r p n o → over_answers step x s B r p (end_of s)
+    ≡ step o.op a n (over_answers step x s A r p (end_of s))
 over_answers-own step x {s} {A} {B} {r} {p} {n} {o} {a} adds own =
     let lt = own.within in
     over_answers-until step x s r p B (suc n) (end_of s) (omega arith) (IsOpenFrom-answered s r p A B n a adds own.from)
-    ∙ ap (λ q. one_more step q (B n) n (over_answers step x s B r p n)) own.own ∙ ap (λ q. one_more step (Some o.op) q n (over_answers step x s B r p n)) adds.added
+    ∙ ap (λ q. one_more step q (B n) n (over_answers step x s B r p n)) own.own
+    ∙ ap (λ q. one_more step (Some o.op) q n (over_answers step x s B r p n)) adds.added
     ∙ ap (step o.op a n) (sym (over_answers-agree step x s r p A B n (AgreeBefore-next s r p n adds (omega arith)))
     ∙ sym (over_answers-until step x s r p A n (end_of s) (omega arith) own.from))
 
-pub StandsForClient-own : {s : Job} {A B : Answering} {now n : ℕ} {o : OpLine} {a : Answer} {r : ℕ} {p : List ℕ} {x y : OwnedPath} {k l : ClientPath} → IsNewAnswer s A now n o a B → IsOwn s A r p n o
-    → Follows s n o.op x k y l a → AreSound s y l → StandsForOwner s A now x → StandsForOwner s B now y → StandsForClient s A r p x k → StandsForClient s B r p y l
+pub StandsForClient-own : {s : Job} {A B : Answering} {now n : ℕ} {o : OpLine} {a : Answer} {r : ℕ} {p : List ℕ} {x y : OwnedPath}
+    {k l : ClientPath} → IsNewAnswer s A now n o a B → IsOwn s A r p n o
+    → Follows s n o.op x k y l a → AreSound s y l → StandsForOwner s A now x → StandsForOwner s B now y → StandsForClient s A r p x k
+    → StandsForClient s B r p y l
 StandsForClient-own {s} {A} {B} {now} {n} {o} {a} {r} {p} {x} {y} {k} h own follows sound owned owns stands =
     let J = x.journal.items in
     let commits = (kept_event s x k o.op).commits in
     let told : x.board.version ≤ length J = subst (λ v. v ≤ length J) (sym owned.board) (told-within s J now) in
     let at = λ (v : ℕ). known_of (state s B y.journal.items v) in
-    let at_old : (v : ℕ) → v ≤ length J → known_of (state s A J v) ≡ at v = λ v le. ap known_of (state-grown J v commits h.adds h.next owned.answered le ∙ ap (λ (j : List ℕ). state s B j v) (sym follows.journal)) in
+    let at_old : (v : ℕ) → v ≤ length J → known_of (state s A J v) ≡ at v =
+    λ v le. ap known_of (state-grown J v commits h.adds h.next owned.answered le
+    ∙ ap (λ (j : List ℕ). state s B j v) (sym follows.journal)) in
     let board : known_from y.board ≡ at y.board.version = owns.known in
-    let knows : Knows s at y k = record { noted = stands.known ∙ at_old k.noted.version stands.within; board = board; now = ap known_of owns.file } in
+    let knows : Knows s at y k = record {
+      noted = stands.known ∙ at_old k.noted.version stands.within;
+      board = board;
+      now =
+          ap known_of owns.file;
+    } in
     record {
       opened = follows.opened ∙ ap (λ b. opens o.op a || b) stands.opened ∙ sym (over_answers-own _ _ h.adds own);
       pending = follows.pending ∙ ap (after_answer o.op a n) stands.pending ∙ sym (over_answers-own _ _ h.adds own);

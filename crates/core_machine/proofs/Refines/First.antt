@@ -20,7 +20,8 @@ owner-fresh s now fresh = record {
   known = rw (fresh.journal, fresh.board) refl;
 }
 
-client-fresh : (s : Job) (r : ℕ) (p : List ℕ) {x : OwnedPath} {k : ClientPath} → IsFreshOwner x → IsFreshClient k → StandsForClient s none r p x k
+client-fresh : (s : Job) (r : ℕ) (p : List ℕ) {x : OwnedPath} {k : ClientPath} → IsFreshOwner x → IsFreshClient k
+    → StandsForClient s none r p x k
 client-fresh s r p owned fresh = record {
   opened = fresh.is_open ∙ sym (over_answers-until _ _ s r p none 0 (end_of s) (omega arith) (λ _ _ _. refl));
   pending = rw fresh.pending refl ∙ sym (over_answers-until _ _ s r p none 0 (end_of s) (omega arith) (λ _ _ _. refl));
@@ -34,12 +35,15 @@ path-fresh : (s : Job) (now : ℕ) (p : List ℕ) {x : PathState} → IsFreshPat
 path-fresh s now p {x} fresh = record {
   owned = owner-fresh s now fresh.owned;
   sized = fresh.sized;
-  clients = λ r k at. client-fresh s r p fresh.owned (subst IsFreshClient (get_or_from_slice_get x.clients.items r k k at) (fresh.clients r k (slice_get_within x.clients.items r k at)));
+  clients = λ r k at. client-fresh s r p fresh.owned (subst IsFreshClient (get_or_from_slice_get x.clients.items r k k at)
+      (fresh.clients r k (slice_get_within x.clients.items r k at)));
 }
 
 -- nothing is kept yet, and that stands for no answers
-pub Holds-first : {s : Job} {paths : List (List ℕ)} (states : List PathState) (answers : Given) (turns : Places) → HasClients s → ArePaths s paths → length states ≡ length paths
-    → All (IsFreshPath s.shape.clients) states → answers.list ≡ [] → answers.lines ≡ length s.lines + 1 → turns.job ≡ s → turns.places ≡ replicate s.shape.clients 0 → Holds s paths states answers turns
+pub Holds-first : {s : Job} {paths : List (List ℕ)} (states : List PathState) (answers : Given) (turns : Places) → HasClients s
+    → ArePaths s paths → length states ≡ length paths
+    → All (IsFreshPath s.shape.clients) states → answers.list ≡ [] → answers.lines ≡ length s.lines + 1 → turns.job ≡ s
+    → turns.places ≡ replicate s.shape.clients 0 → Holds s paths states answers turns
 Holds-first {s} states answers turns job named sized fresh empty room same places = record {
   job = job;
   same = same;
@@ -52,10 +56,12 @@ Holds-first {s} states answers turns job named sized fresh empty room same place
       ap is_some (ap (λ xs. answer_at xs n) empty) ∙ sym (le-ltb k (slice_index turns.places r) (omega arith));
   past = λ m given. absurd (true≢false (sym given ∙ ap is_some (ap (λ xs. answer_at xs m) empty)));
   each = λ i p x at there. subst (λ xs. Stands s (answer_at xs) turns.phase p x) (sym empty)
-      (path-fresh s turns.phase p (subst (IsFreshPath s.shape.clients) (get_or_from_slice_get states i x x there) (fresh i x (slice_get_within states i x there))));
+      (path-fresh s turns.phase p (subst (IsFreshPath s.shape.clients) (get_or_from_slice_get states i x x there)
+      (fresh i x (slice_get_within states i x there))));
 }
 
-fresh-journals : (clients : ℕ) (ps : List (List ℕ)) (xs : List PathState) → AllByRecursion (IsFreshPath clients) xs → AllByRecursion (λ j. j.1 ≡ []) (zip ps (map journal_kept xs))
+fresh-journals : (clients : ℕ) (ps : List (List ℕ)) (xs : List PathState) → AllByRecursion (IsFreshPath clients) xs
+    → AllByRecursion (λ j. j.1 ≡ []) (zip ps (map journal_kept xs))
 fresh-journals clients [] xs fresh = tt
 fresh-journals clients (p ∷ ps) [] fresh = tt
 fresh-journals clients (p ∷ ps) (x ∷ xs) fresh = (fresh.0.owned.journal, fresh-journals clients ps xs fresh.1)
@@ -65,8 +71,10 @@ map-replicate zero = refl
 map-replicate (suc n) = ap (λ cs. client_at 0 ∷ cs) (map-replicate n)
 
 -- the moment that it stands for is the first
-pub IsFirst-first : {s : Job} {paths : List (List ℕ)} (states : List PathState) (answers : Given) (turns : Places) → ArePaths s paths → length states ≡ length paths
-    → All (IsFreshPath s.shape.clients) states → answers.list ≡ [] → turns.places ≡ replicate s.shape.clients 0 → IsFirst s (moment_of s paths states answers turns false)
+pub IsFirst-first : {s : Job} {paths : List (List ℕ)} (states : List PathState) (answers : Given) (turns : Places) → ArePaths s paths
+    → length states ≡ length paths
+    → All (IsFreshPath s.shape.clients) states → answers.list ≡ [] → turns.places ≡ replicate s.shape.clients 0
+    → IsFirst s (moment_of s paths states answers turns false)
 IsFirst-first {s} {paths} states answers turns named sized fresh empty places = record {
   job = refl;
   clients = ap (map client_at) places ∙ map-replicate s.shape.clients;

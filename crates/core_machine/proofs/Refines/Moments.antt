@@ -15,7 +15,8 @@ use Rattle.core_machine.proofs.Refines.Steps.{Answered, given, is_own, stood, cl
 pub client_of-places : (places : List ℕ) (r : ℕ) → get_or (map client_at places) r fresh_client ≡ client_at (slice_index places r)
 client_of-places places r = get_or-map client_at places r 0
 
-after_turn-answered : (place : ℕ) (a : Answer) (e : Event) → e.answer ≡ Some a → e.doing ≡ nothing → after_turn (client_at place) e ≡ client_at (place + 1)
+after_turn-answered : (place : ℕ) (a : Answer) (e : Event) → e.answer ≡ Some a → e.doing ≡ nothing
+    → after_turn (client_at place) e ≡ client_at (place + 1)
 after_turn-answered place a e answered doing = rw (answered, doing) refl
 
 abbrev going_on : Job → List Client → List (ℕ × Answer) → List (List ℕ × List ℕ) → Moment
@@ -25,7 +26,8 @@ same_moment : (s : Job) (cs ds : List Client) (xs ys : List (ℕ × Answer)) (js
     → going_on s cs xs js ≡ going_on s ds ys ks
 same_moment s cs ds xs ys js ks c x j i = going_on s (c i) (x i) (j i)
 
-module _ {s : Job} {paths : List (List ℕ)} {states : List PathState} {answers : Given} {turns : Places} {r : ℕ} (t : Answered s paths states answers turns r) where
+module _ {s : Job} {paths : List (List ℕ)} {states : List PathState} {answers : Given} {turns : Places} {r : ℕ}
+    (t : Answered s paths states answers turns r) where
   abbrev before : Moment
   before = moment_of s paths states answers turns false
 
@@ -35,7 +37,9 @@ module _ {s : Job} {paths : List (List ℕ)} {states : List PathState} {answers 
   -- the event sees what is kept
   event-is : event_at before t.number t.line ≡ kept
   event-is =
-      let J : journal_of (journals_of paths states) t.line.path ≡ t.was.owned.journal.items = journal_of-zip paths (map journal_kept states) t.place t.line.path (journal_kept t.was) t.held.named.rising t.at (slice_get-map_some journal_kept states t.place t.was t.there) in
+      let J : journal_of (journals_of paths states) t.line.path ≡ t.was.owned.journal.items =
+      journal_of-zip paths (map journal_kept states) t.place t.line.path (journal_kept t.was) t.held.named.rising t.at
+      (slice_get-map_some journal_kept states t.place t.was t.there) in
       ap (λ (j : List ℕ). event_of s.shape.chunk (path_now s (given t) j t.number t.line) t.line.op) J
       ∙ ap (λ (w : PathNow). event_of s.shape.chunk w t.line.op) (sym (kept_now-is t.now (is_own t) (stood t).owned (client_stood t)))
 
@@ -45,12 +49,16 @@ module _ {s : Job} {paths : List (List ℕ)} {states : List PathState} {answers 
   clients-are : map client_at (after_line turns r).places ≡ set (map client_at turns.places) r (after_turn (client_of before r) kept)
   clients-are =
       map-set client_at turns.places r (slice_index turns.places r + 1)
-      ∙ ap (set (map client_at turns.places) r) (sym (after_turn-answered (slice_index turns.places r) t.answer kept t.follows.answer t.follows.doing) ∙ ap (λ c. after_turn c kept) (sym (client_of-places turns.places r)))
+      ∙ ap (set (map client_at turns.places) r)
+      (sym (after_turn-answered (slice_index turns.places r) t.answer kept t.follows.answer t.follows.doing)
+      ∙ ap (λ c. after_turn c kept) (sym (client_of-places turns.places r)))
 
-  pub step-is : moment_of s paths (set states t.place t.then) (record { lines = answers.lines; list = put_answer t.number t.answer answers.list }) (after_line turns r) false ≡ step before (record { client = r })
+  pub step-is : moment_of s paths (set states t.place t.then)
+      (record { lines = answers.lines; list = put_answer t.number t.answer answers.list }) (after_line turns r) false
+      ≡ step before (record { client = r })
   step-is =
       same_moment s _ _ _ _ _ _ clients-are (sym (ap (λ a. with_answer t.number a answers.list) t.follows.answer))
-      (journals_of-set paths states t.line.path t.number t.place t.was t.then kept.commits t.held.named.rising t.at t.there t.follows.journal)
-      ∙ ap (after_event before r t.number t.line) (sym event-is)
-      ∙ ap (step_line before r t.number) (sym t.is)
+      (journals_of-set paths states t.line.path t.number t.place t.was t.then kept.commits t.held.named.rising t.at t.there
+      t.follows.journal)
+      ∙ ap (after_event before r t.number t.line) (sym event-is) ∙ ap (step_line before r t.number) (sym t.is)
       ∙ ap (step_at before r) (sym next-is)

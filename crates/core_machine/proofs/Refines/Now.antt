@@ -10,22 +10,28 @@ later-version : (a b : Noted) → (later_of a b).version ≡ max a.version b.ver
 later-version a b = cond_both (leb b.version a.version) a b (λ x. x.version ≡ max a.version b.version)
     (λ le. let lt = leb-true b.version a.version le in omega arith) (λ more. grind (arith, nat_tests))
 
-later-known : (at : ℕ → Known) (a b : Noted) → known_from a ≡ at a.version → known_from b ≡ at b.version → known_from (later_of a b) ≡ at (later_of a b).version
+later-known : (at : ℕ → Known) (a b : Noted) → known_from a ≡ at a.version → known_from b ≡ at b.version
+    → known_from (later_of a b) ≡ at (later_of a b).version
 later-known at a b here there = cond_both (leb b.version a.version) a b (λ x. known_from x ≡ at x.version) (λ _. here) (λ _. there)
 
 -- the front of the line is the greater of what its client noted and the board
-front-kept : {s : Job} {A : Answering} {now n : ℕ} {o : OpLine} {x : OwnedPath} {k : ClientPath} → phase s n ≡ now → IsOwn s A o.rank o.path n o → StandsForOwner s A now x → StandsForClient s A o.rank o.path x k
+front-kept : {s : Job} {A : Answering} {now n : ℕ} {o : OpLine} {x : OwnedPath} {k : ClientPath} → phase s n ≡ now
+    → IsOwn s A o.rank o.path n o → StandsForOwner s A now x → StandsForClient s A o.rank o.path x k
     → (later_of k.noted x.board).version ≡ front s A x.journal.items o.rank o.path n
 front-kept {s} {A} {n} {o} {x} {k} is own owned client =
     let lt = own.within in
-    let saw : k.noted.version ≡ seen s A o.rank o.path n = client.seen ∙ over_answers-until _ _ s o.rank o.path A n (end_of s) (omega arith) own.from in
-    let told : x.board.version ≡ of_earlier_phases s n x.journal.items = owned.board ∙ ap (λ j. count_by (λ m. nat_lt (phase s m) j) x.journal.items) (sym is) in
+    let saw : k.noted.version ≡ seen s A o.rank o.path n = client.seen
+    ∙ over_answers-until _ _ s o.rank o.path A n (end_of s) (omega arith) own.from in
+    let told : x.board.version ≡ of_earlier_phases s n x.journal.items = owned.board
+    ∙ ap (λ j. count_by (λ m. nat_lt (phase s m) j) x.journal.items) (sym is) in
     later-version k.noted x.board ∙ ap (λ v. max v x.board.version) saw ∙ ap (max (seen s A o.rank o.path n)) told
 
-same_now : (v w : PathNow) → v.file ≡ w.file → v.version ≡ w.version → v.pending ≡ w.pending → v.is_open ≡ w.is_open → v.front ≡ w.front → v.at_front ≡ w.at_front → v ≡ w
+same_now : (v w : PathNow) → v.file ≡ w.file → v.version ≡ w.version → v.pending ≡ w.pending → v.is_open ≡ w.is_open → v.front ≡ w.front
+    → v.at_front ≡ w.at_front → v ≡ w
 same_now v w a b c d e f i = record { file = a i; version = b i; pending = c i; is_open = d i; front = e i; at_front = f i }
 
-pub kept_now-is : {s : Job} {A : Answering} {now n : ℕ} {o : OpLine} {x : OwnedPath} {k : ClientPath} → phase s n ≡ now → IsOwn s A o.rank o.path n o → StandsForOwner s A now x → StandsForClient s A o.rank o.path x k
+pub kept_now-is : {s : Job} {A : Answering} {now n : ℕ} {o : OpLine} {x : OwnedPath} {k : ClientPath} → phase s n ≡ now
+    → IsOwn s A o.rank o.path n o → StandsForOwner s A now x → StandsForClient s A o.rank o.path x k
     → kept_now s x k ≡ path_now s A x.journal.items n o
 kept_now-is {s} {A} {now} {n} {o} {x} {k} is own owned client =
     let lt = own.within in

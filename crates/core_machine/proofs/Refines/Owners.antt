@@ -24,8 +24,10 @@ still-answered {B} {n} m adds given = elim (cases_eq m n) [
   | inr other ↦ ap is_some (adds.others m other) ∙ given
 ]
 
-all-answered : {A B : Answering} {n : ℕ} {a : Answer} (J : List ℕ) → AddsAnswer A n a B → AllByRecursion (λ m. IsSome (A m)) J → AllByRecursion (λ m. IsSome (B m)) J
-all-answered {A} {B} {n} {a} J adds = AllByRecursion-weaker (λ m. IsSome (A m)) (λ m. IsSome (B m)) J (λ m given. still-answered m adds given)
+all-answered : {A B : Answering} {n : ℕ} {a : Answer} (J : List ℕ) → AddsAnswer A n a B → AllByRecursion (λ m. IsSome (A m)) J
+    → AllByRecursion (λ m. IsSome (B m)) J
+all-answered {A} {B} {n} {a} J adds = AllByRecursion-weaker (λ m. IsSome (A m)) (λ m. IsSome (B m)) J
+    (λ m given. still-answered m adds given)
 
 -- ---- a version that was there
 
@@ -37,14 +39,18 @@ length-grown J n true = omega (arith, length_push J n)
 length-grown J n false = omega arith
 
 -- its file stays, as the line is answered and perhaps committed
-pub state-grown : {s : Job} {A B : Answering} (J : List ℕ) {n : ℕ} (v : ℕ) {a : Answer} (commits : Bool) → AddsAnswer A n a B → ComesNext s A n → AllByRecursion (λ m. IsSome (A m)) J → v ≤ length J
+pub state-grown : {s : Job} {A B : Answering} (J : List ℕ) {n : ℕ} (v : ℕ) {a : Answer} (commits : Bool) → AddsAnswer A n a B
+    → ComesNext s A n → AllByRecursion (λ m. IsSome (A m)) J → v ≤ length J
     → state s A J v ≡ state s B (grown J n commits) v
-state-grown {s} {A} {B} J {n} v {a} true adds next all within = state-answered s A B J n v a adds next all ∙ sym (state_in-push s (bytes_of s) B J n v within)
+state-grown {s} {A} {B} J {n} v {a} true adds next all within = state-answered s A B J n v a adds next all
+    ∙ sym (state_in-push s (bytes_of s) B J n v within)
 state-grown {s} {A} {B} J {n} v {a} false adds next all within = state-answered s A B J n v a adds next all
 
 -- the file that the line leaves
-state-now : {s : Job} {A B : Answering} {now n : ℕ} {o : OpLine} {a : Answer} (J : List ℕ) (commits : Bool) (f : File ℕ) → IsNewAnswer s A now n o a B → AllByRecursion (λ m. IsSome (A m)) J
-    → f ≡ state s A J (length J) → cond commits (effect_of s (bytes_of s) o.op (pending s A o.rank o.path n) f) f ≡ state s B (grown J n commits) (length (grown J n commits))
+state-now : {s : Job} {A B : Answering} {now n : ℕ} {o : OpLine} {a : Answer} (J : List ℕ) (commits : Bool) (f : File ℕ)
+    → IsNewAnswer s A now n o a B → AllByRecursion (λ m. IsSome (A m)) J
+    → f ≡ state s A J (length J) → cond commits (effect_of s (bytes_of s) o.op (pending s A o.rank o.path n) f) f
+    ≡ state s B (grown J n commits) (length (grown J n commits))
 state-now {s} {A} {B} {n} {a} J false f h all here = here ∙ state-answered s A B J n (length J) a h.adds h.next all
 state-now {s} {A} {B} {n} {o} {a} J true f h all here =
     let before : f ≡ state s B J (length J) = here ∙ state-answered s A B J n (length J) a h.adds h.next all in
@@ -56,7 +62,8 @@ state-now {s} {A} {B} {n} {o} {a} J true f h all here =
 
 -- ---- the part of another path
 
-pub StandsForOwner-other : {s : Job} {A B : Answering} {now n : ℕ} {o : OpLine} {a : Answer} {x : OwnedPath} → IsNewAnswer s A now n o a B → StandsForOwner s A now x → StandsForOwner s B now x
+pub StandsForOwner-other : {s : Job} {A B : Answering} {now n : ℕ} {o : OpLine} {a : Answer} {x : OwnedPath} → IsNewAnswer s A now n o a B
+    → StandsForOwner s A now x → StandsForOwner s B now x
 StandsForOwner-other {s} {A} {B} {n} {a} {x} h stands = record {
   answered = all-answered x.journal.items h.adds stands.answered;
   written = stands.written;
@@ -68,7 +75,8 @@ StandsForOwner-other {s} {A} {B} {n} {a} {x} h stands = record {
 -- ---- the part of the line's own path
 
 -- a line of the run's phase is none of an earlier one
-told-grown : (s : Job) (J : List ℕ) (n now : ℕ) (commits : Bool) → phase s n ≡ now → count_by (λ m. nat_lt (phase s m) now) (grown J n commits) ≡ count_by (λ m. nat_lt (phase s m) now) J
+told-grown : (s : Job) (J : List ℕ) (n now : ℕ) (commits : Bool) → phase s n ≡ now
+    → count_by (λ m. nat_lt (phase s m) now) (grown J n commits) ≡ count_by (λ m. nat_lt (phase s m) now) J
 told-grown s J n now false is = refl
 told-grown s J n now true is =
     sum_by_push (λ m. cond (nat_lt (phase s m) now) 1 0) J n
@@ -77,11 +85,14 @@ told-grown s J n now true is =
 pub told-within : (s : Job) (J : List ℕ) (now : ℕ) → count_by (λ m. nat_lt (phase s m) now) J ≤ length J
 told-within s J now = count_by-le-length (λ m. nat_lt (phase s m) now) J
 
-answered-grown : {s : Job} {A B : Answering} {now n : ℕ} {o : OpLine} {a : Answer} (J : List ℕ) (commits : Bool) → IsNewAnswer s A now n o a B → AllByRecursion (λ m. IsSome (A m)) J → AllByRecursion (λ m. IsSome (B m)) (grown J n commits)
-answered-grown {A} {B} {n} {a} J true h all = AllByRecursion-push (λ m. IsSome (B m)) J n (all-answered J h.adds all) (ap is_some h.adds.added)
+answered-grown : {s : Job} {A B : Answering} {now n : ℕ} {o : OpLine} {a : Answer} (J : List ℕ) (commits : Bool)
+    → IsNewAnswer s A now n o a B → AllByRecursion (λ m. IsSome (A m)) J → AllByRecursion (λ m. IsSome (B m)) (grown J n commits)
+answered-grown {A} {B} {n} {a} J true h all = AllByRecursion-push (λ m. IsSome (B m)) J n (all-answered J h.adds all)
+    (ap is_some h.adds.added)
 answered-grown {A} {B} {n} {a} J false h all = all-answered J h.adds all
 
-pub StandsForOwner-own : {s : Job} {A B : Answering} {now n : ℕ} {o : OpLine} {a : Answer} {x y : OwnedPath} {k l : ClientPath} → IsNewAnswer s A now n o a B → pending_lines k ≡ pending s A o.rank o.path n
+pub StandsForOwner-own : {s : Job} {A B : Answering} {now n : ℕ} {o : OpLine} {a : Answer} {x y : OwnedPath} {k l : ClientPath}
+    → IsNewAnswer s A now n o a B → pending_lines k ≡ pending s A o.rank o.path n
     → Follows s n o.op x k y l a → AreSound s y l → StandsForOwner s A now x → StandsForOwner s B now y
 StandsForOwner-own {s} {A} {B} {now} {n} {o} {a} {x} {y} {k} h pends follows sound stands =
     let J = x.journal.items in
@@ -91,12 +102,11 @@ StandsForOwner-own {s} {A} {B} {now} {n} {o} {a} {x} {y} {k} h pends follows sou
     record {
       answered = subst (λ j. AllByRecursion (λ m. IsSome (B m)) j) (sym K) (answered-grown J commits h stands.answered);
       written = sound.written;
-      file = follows.file
-          ∙ ap (λ (q : List ℕ). cond commits (effect_of s (bytes_of s) o.op q (file_of s x.file)) (file_of s x.file)) pends
-          ∙ state-now J commits (file_of s x.file) h stands.answered stands.file
-          ∙ ap (λ (j : List ℕ). state s B j (length j)) (sym K);
+      file = follows.file ∙ ap (λ (q : List ℕ). cond commits (effect_of s (bytes_of s) o.op q (file_of s x.file)) (file_of s x.file)) pends
+          ∙ state-now J commits (file_of s x.file) h stands.answered stands.file ∙ ap (λ (j : List ℕ). state s B j (length j)) (sym K);
       board = board ∙ stands.board ∙ sym (ap (count_by (λ m. nat_lt (phase s m) now)) K ∙ told-grown s J n now commits h.phase);
       known = ap known_from follows.board ∙ stands.known
-          ∙ ap known_of (state-grown J x.board.version commits h.adds h.next stands.answered (subst (λ v. v ≤ length J) (sym stands.board) (told-within s J now))
+          ∙ ap known_of (state-grown J x.board.version commits h.adds h.next stands.answered
+          (subst (λ v. v ≤ length J) (sym stands.board) (told-within s J now))
           ∙ ap (λ (j : List ℕ). state s B j x.board.version) (sym K) ∙ ap (state s B y.journal.items) (sym board));
     }

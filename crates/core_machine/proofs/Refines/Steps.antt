@@ -1,9 +1,10 @@
 -- One event of the machine is one line answered by what the core keeps.
-use Rattle.fs_types.proofs.Common.{cond-false, false_from_ne_true, and_parts, eqb-true, ◌≡◌, ◌≢◌, ℕ, ◌+◌, ◌<◌, ◌≤◌, false, List, length, set, slice_index, Some, None, IsSome}
-use Rattle.fs_types.proofs.Common.{is_some, refl, sym, ap, subst, ◌∙◌, arith, inl, inr, nat_eq, eq-eqb, ◌&&◌, slice_get, bytes_eq, cases_eq}
-use Rattle.fs_types.proofs.Common.{length-set, get_or-set_same, get_or-set_other, same_Some, slice_get_within, bytes_eq-Decides}
-use Rattle.fs_script.specs.Vocabulary.{Answer, Given, answer_at, put_answer, Job, op_at, own_op, rank_in, phase, program}
-use Rattle.fs_script.specs.Vocabulary.{Answering, pending}
+use Rattle.fs_types.proofs.Common.{cond-false, false_from_ne_true, and_parts, eqb-true, ◌≡◌, ◌≢◌, ℕ, ◌+◌, ◌<◌, ◌≤◌, false, List, length}
+use Rattle.fs_types.proofs.Common.{set, slice_index, Some, None, IsSome, is_some, refl, sym, ap, subst, ◌∙◌, arith, inl, inr, nat_eq}
+use Rattle.fs_types.proofs.Common.{eq-eqb, ◌&&◌, slice_get, bytes_eq, cases_eq, length-set, get_or-set_same, get_or-set_other, same_Some}
+use Rattle.fs_types.proofs.Common.{slice_get_within, bytes_eq-Decides}
+use Rattle.fs_script.specs.Vocabulary.{Answer, Given, answer_at, put_answer, Job, op_at, own_op, rank_in, phase, program, Answering}
+use Rattle.fs_script.specs.Vocabulary.{pending}
 use Rattle.core_machine.specs.Vocabulary.{OpLine, PathState, ClientPath, AreSound, pending_lines, Follows, kept_event, Places}
 use Rattle.core_machine.specs.Vocabulary.{IsAnsweredUpTo, after_line, Holds, Stands, StandsForOwner, StandsForClient, end_of}
 use Rattle.fs_script.proofs.CallerLemmas.{AddsAnswer-put, own_op-rank, op_at-within, program-op}
@@ -51,7 +52,8 @@ pub record Answered (s : Job) (paths : List (List ℕ)) (states : List PathState
   pub follows : Follows s number line.op was.owned client then.owned own answer
   pub sound : AreSound s then.owned own
 
-module _ {s : Job} {paths : List (List ℕ)} {states : List PathState} {answers : Given} {turns : Places} {r : ℕ} (t : Answered s paths states answers turns r) where
+module _ {s : Job} {paths : List (List ℕ)} {states : List PathState} {answers : Given} {turns : Places} {r : ℕ}
+    (t : Answered s paths states answers turns r) where
   abbrev pub given : Answering
   given = answer_at answers.list
 
@@ -72,7 +74,8 @@ module _ {s : Job} {paths : List (List ℕ)} {states : List PathState} {answers 
   pub is_own : IsOwn s given t.line.rank t.line.path t.number t.line
   is_own = record {
     own = ap (own_op t.line.rank t.line.path) t.is ∙ own_op-here t.line;
-    from = IsOpenFrom-next s t.line.rank t.line.path given t.number (comes_next stands_next) (ap rank_in t.is) (λ k own. own_op-rank t.line.rank t.line.path (op_at s k) own);
+    from = IsOpenFrom-next s t.line.rank t.line.path given t.number (comes_next stands_next) (ap rank_in t.is)
+        (λ k own. own_op-rank t.line.rank t.line.path (op_at s k) own);
     within = (let inside = op_at-within s t.number t.line t.is in omega (arith, inside.1));
   }
 
@@ -98,11 +101,14 @@ module _ {s : Job} {paths : List (List ℕ)} {states : List PathState} {answers 
   client-after : StandsForClient s given_then t.line.rank t.line.path t.then.owned t.own
   client-after = StandsForClient-own is_answer is_own t.follows t.sound stood.owned owner-after client_stood
 
-  clients-after : (q : ℕ) (k : ClientPath) → slice_get t.then.clients.items q ≡ Some k → StandsForClient s given_then q t.line.path t.then.owned k
+  clients-after : (q : ℕ) (k : ClientPath) → slice_get t.then.clients.items q ≡ Some k
+      → StandsForClient s given_then q t.line.path t.then.owned k
   clients-after q k found = elim (cases_eq q r) [
     | inl is ↦
-        let there = sym (slice_get-set_same t.was.clients.items r t.own (slice_get_within t.was.clients.items r t.client t.beside)) ∙ ap (slice_get (set t.was.clients.items r t.own)) (sym is) ∙ ap (λ ks. slice_get ks q) (sym t.changed) ∙ found in
-        subst (λ i. StandsForClient s given_then i t.line.path t.then.owned k) (rank-is ∙ sym is) (subst (StandsForClient s given_then t.line.rank t.line.path t.then.owned) (same_Some t.own k there) client-after)
+        let there = sym (slice_get-set_same t.was.clients.items r t.own (slice_get_within t.was.clients.items r t.client t.beside))
+        ∙ ap (slice_get (set t.was.clients.items r t.own)) (sym is) ∙ ap (λ ks. slice_get ks q) (sym t.changed) ∙ found in
+        subst (λ i. StandsForClient s given_then i t.line.path t.then.owned k) (rank-is
+        ∙ sym is) (subst (StandsForClient s given_then t.line.rank t.line.path t.then.owned) (same_Some t.own k there) client-after)
     | inr other ↦
         let kept = sym (slice_get-set_other t.was.clients.items r q t.own other) ∙ ap (λ ks. slice_get ks q) (sym t.changed) ∙ found in
         let none = ap (own_op q t.line.path) t.is ∙ own_op-other t.line q t.line.path (λ e same. other (sym e ∙ rank-is)) in
@@ -124,18 +130,23 @@ module _ {s : Job} {paths : List (List ℕ)} {states : List PathState} {answers 
     sized = stands.sized;
     clients = λ q k found.
         let none = ap (own_op q p) t.is ∙ own_op-other t.line q p (λ same e. off e) in
-        StandsForClient-other {commits = false} {y = x.owned} is_answer none (record { journal = refl }) stands.owned (stands.clients q k found);
+        StandsForClient-other {commits = false} {y = x.owned} is_answer none (record { journal = refl }) stands.owned
+        (stands.clients q k found);
   }
 
-  each-after : (j : ℕ) (p : List ℕ) (x : PathState) → slice_get paths j ≡ Some p → slice_get (set states t.place t.then) j ≡ Some x → Stands s given_then turns.phase p x
+  each-after : (j : ℕ) (p : List ℕ) (x : PathState) → slice_get paths j ≡ Some p → slice_get (set states t.place t.then) j ≡ Some x
+      → Stands s given_then turns.phase p x
   each-after j p x at found = elim (cases_eq j t.place) [
     | inl is ↦
         let here = same_Some t.line.path p (sym t.at ∙ ap (slice_get paths) (sym is) ∙ at) in
-        let there = sym (slice_get-set_same states t.place t.then (slice_get_within states t.place t.was t.there)) ∙ ap (slice_get (set states t.place t.then)) (sym is) ∙ found in
-        subst (λ q. Stands s given_then turns.phase q x) here (subst (Stands s given_then turns.phase t.line.path) (same_Some t.then x there) stands-after)
+        let there = sym (slice_get-set_same states t.place t.then (slice_get_within states t.place t.was t.there))
+        ∙ ap (slice_get (set states t.place t.then)) (sym is) ∙ found in
+        subst (λ q. Stands s given_then turns.phase q x) here
+        (subst (Stands s given_then turns.phase t.line.path) (same_Some t.then x there) stands-after)
     | inr other ↦
         let kept = sym (slice_get-set_other states t.place j t.then other) ∙ found in
-        stands-other p x (λ e. other (place_unique paths j t.place t.line.path t.held.named.rising (at ∙ ap Some (sym e)) t.at)) (t.held.each j p x at kept)
+        stands-other p x (λ e. other (place_unique paths j t.place t.line.path t.held.named.rising (at ∙ ap Some (sym e)) t.at))
+        (t.held.each j p x at kept)
   ]
 
   -- ---- all that is kept
@@ -147,7 +158,8 @@ module _ {s : Job} {paths : List (List ℕ)} {states : List PathState} {answers 
         let bound = t.within in
         let size = t.held.clients in
         subst (λ i. IsAnsweredUpTo s given_then i (slice_index (after_line turns r).places i)) (sym is)
-        (subst (IsAnsweredUpTo s given_then r) (sym (get_or-set_same turns.places r (place + 1) 0 (omega arith))) (upto-own stands_next given_then t.answer is_answer.adds))
+        (subst (IsAnsweredUpTo s given_then r) (sym (get_or-set_same turns.places r (place + 1) 0 (omega arith)))
+        (upto-own stands_next given_then t.answer is_answer.adds))
     | inr other ↦
         subst (IsAnsweredUpTo s given_then q) (sym (get_or-set_other turns.places r q (slice_index turns.places r + 1) 0 other))
         (upto-other s q (slice_index turns.places q) t.line is_answer.adds t.is (λ e. other (sym e ∙ rank-is)) (t.held.upto q within))
@@ -159,7 +171,8 @@ module _ {s : Job} {paths : List (List ℕ)} {states : List PathState} {answers 
     | inr other ↦ t.held.past m (ap is_some (sym (is_answer.adds.others m other)) ∙ counts)
   ]
 
-  pub Holds-after : Holds s paths (set states t.place t.then) (record { lines = answers.lines; list = put_answer t.number t.answer answers.list }) (after_line turns r)
+  pub Holds-after : Holds s paths (set states t.place t.then)
+      (record { lines = answers.lines; list = put_answer t.number t.answer answers.list }) (after_line turns r)
   Holds-after = record {
     job = t.held.job;
     same = t.held.same;

@@ -1,7 +1,7 @@
 -- The end of a phase: all clients are told of every path, and all that is kept goes on holding in the next phase.
-use Rattle.fs_types.proofs.Common.{◌≡◌, ℕ, zero, suc, ◌<◌, Bool, false, cond, List, [], ◌∷◌, length, map}
-use Rattle.fs_types.proofs.Common.{Option, Some, None, IsSome, is_some, Vec, nat_lt, count_by, slice_index, refl, sym, ap, ◌∙◌, subst}
-use Rattle.fs_types.proofs.Common.{arith, zip, slice_get, AllByRecursion, lt-ltb, length-map, sum_by-cons, map-map, same_Some}
+use Rattle.fs_types.proofs.Common.{◌≡◌, ℕ, zero, suc, ◌<◌, Bool, false, cond, List, [], ◌∷◌, length, map, Option, Some, None, IsSome}
+use Rattle.fs_types.proofs.Common.{is_some, Vec, nat_lt, count_by, slice_index, refl, sym, ap, ◌∙◌, subst, arith, zip, slice_get}
+use Rattle.fs_types.proofs.Common.{AllByRecursion, lt-ltb, length-map, sum_by-cons, map-map, same_Some}
 use Rattle.fs_script.specs.Vocabulary.{Given, answer_at, Job, phase, Answering}
 use Rattle.core_machine.specs.Vocabulary.{Extent, OwnedPath, PathState, known_of, file_of, board_now, with_board, Places, IsAnsweredUpTo}
 use Rattle.core_machine.specs.Vocabulary.{client_at, moment_of, Holds, Stands, StandsForOwner}
@@ -9,7 +9,8 @@ use Rattle.fs_script.proofs.CallerLemmas.{AllByRecursion-weaker}
 use Rattle.core_machine.proofs.Refines.Journals.{journal_kept}
 
 -- lines of phases before a later one are all of the lines
-all-earlier : (s : Job) (now : ℕ) (J : List ℕ) → AllByRecursion (λ m. phase s m < now) J → length J ≡ count_by (λ m. nat_lt (phase s m) now) J
+all-earlier : (s : Job) (now : ℕ) (J : List ℕ) → AllByRecursion (λ m. phase s m < now) J
+    → length J ≡ count_by (λ m. nat_lt (phase s m) now) J
 all-earlier s now [] all = refl
 all-earlier s now (m ∷ J) all =
     let rest = all-earlier s now J all.1 in
@@ -21,17 +22,20 @@ known-board s None = refl
 known-board s (Some xs) = refl
 
 -- the owner's part, where every line that was answered is of an earlier phase than the next one
-StandsForOwner-told : {s : Job} {A : Answering} {now : ℕ} (next : ℕ) {x : OwnedPath} → ((m : ℕ) → IsSome (A m) → phase s m < next) → StandsForOwner s A now x → StandsForOwner s A next (record x { board = board_now x })
+StandsForOwner-told : {s : Job} {A : Answering} {now : ℕ} (next : ℕ) {x : OwnedPath} → ((m : ℕ) → IsSome (A m) → phase s m < next)
+    → StandsForOwner s A now x → StandsForOwner s A next (record x { board = board_now x })
 StandsForOwner-told {s} {A} next {x} past stands = record {
   answered = stands.answered;
   written = stands.written;
   file = stands.file;
-  board = all-earlier s next x.journal.items (AllByRecursion-weaker (λ m. IsSome (A m)) (λ m. phase s m < next) x.journal.items past stands.answered);
+  board = all-earlier s next x.journal.items (AllByRecursion-weaker (λ m. IsSome (A m)) (λ m. phase s m < next) x.journal.items past
+      stands.answered);
   known = known-board s x.file ∙ ap known_of stands.file;
 }
 
 -- all that is kept, once all clients were told and the next phase has begun
-pub Holds-told : {s : Job} {paths : List (List ℕ)} {states : List PathState} {answers : Given} {turns : Places} (then : Places) → then.job ≡ turns.job → then.places ≡ turns.places → turns.phase < then.phase
+pub Holds-told : {s : Job} {paths : List (List ℕ)} {states : List PathState} {answers : Given} {turns : Places} (then : Places)
+    → then.job ≡ turns.job → then.places ≡ turns.places → turns.phase < then.phase
     → Holds s paths states answers turns → Holds s paths (map with_board states) answers then
 Holds-told {s} {states} {answers} {turns} then job places later held = record {
   job = held.job;
@@ -53,13 +57,15 @@ Holds-told {s} {states} {answers} {turns} then job places later held = record {
       });
 }
   where
-    told-at : (xs : List PathState) (i : ℕ) (x : PathState) → slice_get (map with_board xs) i ≡ Some x → (y : PathState) × (slice_get xs i ≡ Some y) × (with_board y ≡ x)
+    told-at : (xs : List PathState) (i : ℕ) (x : PathState) → slice_get (map with_board xs) i ≡ Some x
+        → (y : PathState) × (slice_get xs i ≡ Some y) × (with_board y ≡ x)
     told-at [] i x is = absurd cc
     told-at (y ∷ ys) zero x is = (y, refl, same_Some (with_board y) x is)
     told-at (y ∷ ys) (suc i) x is = told-at ys i x is
 
 -- the moment stays
-pub moment-told : (s : Job) (paths : List (List ℕ)) (states : List PathState) (answers : Given) (turns then : Places) (spent : Bool) → then.places ≡ turns.places
+pub moment-told : (s : Job) (paths : List (List ℕ)) (states : List PathState) (answers : Given) (turns then : Places) (spent : Bool)
+    → then.places ≡ turns.places
     → moment_of s paths (map with_board states) answers then spent ≡ moment_of s paths states answers turns spent
 moment-told s paths states answers turns then spent places i = record {
   job = s;

@@ -12,8 +12,7 @@ module _ (k : NextLine) (off len : ℕ) where
 
   read_over-legal : (f : File ℕ) → (now k).file ≡ f → false ≡ not (now k).is_open
       → IsLegalEvent k (ops.Read off len) (read_over (now k) f asks)
-  read_over-legal None is opened =
-      kept (answers.NoEnt _) opened (MayPrint-last k) (refl, tt, ap is_some is) refl
+  read_over-legal None is opened = kept (answers.NoEnt _) opened (MayPrint-last k) (refl, tt, ap is_some is) refl
   read_over-legal (Some f) is opened =
       kept (shows _ (shown f.cells off len)) opened (MayPrint-last k)
       (rw is (record { count = refl; same = λ _. refl })) refl

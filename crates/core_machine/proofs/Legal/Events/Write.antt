@@ -23,11 +23,9 @@ module _ (k : NextLine) (off : ℕ) (text : Data) where
       (λ over. kept answers.TooBig opened tt (may, ltb-true _ _ over) refl)
       (λ within. kept (answers.Wrote _) opened tt (may, ltb-false _ _ within, refl) refl)
 
-  write_at_front-legal : (f : File ℕ) → file_at_front ≡ f → false ≡ not (now k).is_open
-      → IsLegalEvent k op
+  write_at_front-legal : (f : File ℕ) → file_at_front ≡ f → false ≡ not (now k).is_open → IsLegalEvent k op
       (write_at_front k.job.shape.chunk (record (now k) { at_front = known_of f }) brings)
-  write_at_front-legal None is opened =
-      kept (answers.NoEnt _) opened (MayPrint-front k) (refl, refl, ap is_some is) refl
+  write_at_front-legal None is opened = kept (answers.NoEnt _) opened (MayPrint-front k) (refl, refl, ap is_some is) refl
   write_at_front-legal (Some f) is opened =
       cond_both f.frozen _ _ (IsLegalEvent k op)
       (λ frozen. kept (answers.ReadOnly _) opened (MayPrint-front k)

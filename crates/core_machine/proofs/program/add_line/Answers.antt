@@ -11,7 +11,12 @@ operation c = search rules
 pub bounds-programs-rank-inside : goal.bounds-programs-rank-inside
 bounds-programs-rank-inside c =
     let o = c.in-Some-Op.field-0-0 in
-    omega (arith, c.rank.view_is, c.requires.job c.args.n o (operation (goal.at.bounds-programs-rank-inside c).In-Some-Op), c.requires.clients)
+    omega (
+      arith,
+      c.rank.view_is,
+      c.requires.job c.args.n o (operation (goal.at.bounds-programs-rank-inside c).In-Some-Op),
+      c.requires.clients,
+    )
 
 pub returns-in-Some-Op-clause-lines : goal.returns-in-Some-Op-clause-lines
 returns-in-Some-Op-clause-lines c =
@@ -26,4 +31,5 @@ returns-in-Some-Op-clause-lines c =
 
 pub returns-in-Some-Op-clause-places : goal.returns-in-Some-Op-clause-places
 returns-in-Some-Op-clause-places c =
-    map-set_same (λ (p : Program). p.place) c.args.programs.now c.rank.inside.0 c.push.new.self c.index-programs-rank.result c.push.ensures.place
+    map-set_same (λ (p : Program). p.place) c.args.programs.now c.rank.inside.0 c.push.new.self c.index-programs-rank.result
+    c.push.ensures.place

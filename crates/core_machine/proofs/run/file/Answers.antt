@@ -6,7 +6,8 @@ use Rattle.core_machine.proofs.run.file.Goals as goal
 pub file_state-requires : goal.file_state-requires
 file_state-requires c =
     let r = c.args.run.now in
-    (Stands-read c.in-Some.i c.args.p.now c.index.result.now (c.requires.holds c.if-run.false) c.in-Some.ensures.there c.index.ensures).owned.written
+    (Stands-read c.in-Some.i c.args.p.now c.index.result.now (c.requires.holds c.if-run.false) c.in-Some.ensures.there
+    c.index.ensures).owned.written
 
 pub returns-in-Some : goal.returns-in-Some
 returns-in-Some c =

@@ -6,6 +6,5 @@ use Rattle.core_machine.proofs.run.ready.Goals as goal
 pub returns-else-run : goal.returns-else-run
 returns-else-run c =
     let r = c.args.run.now in
-    c.ready.ensures.ready
-    ∙ sym (ready-kept (c.requires.holds c.if-run.false) c.requires.phases)
+    c.ready.ensures.ready ∙ sym (ready-kept (c.requires.holds c.if-run.false) c.requires.phases)
     ∙ ap (λ b. ready (moment_of r.script.now r.paths r.states.items r.answers r.turns b)) (sym c.if-run.false)

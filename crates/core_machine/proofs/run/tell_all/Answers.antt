@@ -1,5 +1,4 @@
-use Rattle.std.proofs.lemmas.List.Edits.{map_over_more}
-use Rattle.fs_types.proofs.Common.{set, sym, ap, ◌∙◌}
+use Rattle.fs_types.proofs.Common.{map_over_more, set, sym, ap, ◌∙◌}
 use Rattle.core_machine.specs.Vocabulary.{with_board}
 use Rattle.core_machine.proofs.run.tell_all.Goals as goal
 

@@ -6,7 +6,11 @@ use Rattle.core_machine.proofs.turns.fill_ready.Goals.{then-goes_in, else-goes_i
 use Rattle.core_machine.proofs.turns.fill_ready.Goals as goal
 
 pub bounds-programs-r : goal.bounds-programs-r
-bounds-programs-r c = omega (arith, length-programs c.args.s.now c.args.programs.now c.requires.programs, c.client_count-r-end.ensures.count)
+bounds-programs-r c = omega (
+  arith,
+  length-programs c.args.s.now c.args.programs.now c.requires.programs,
+  c.client_count-r-end.ensures.count,
+)
 
 pub loop-r-preserved : goal.loop-r-preserved
 loop-r-preserved c =

@@ -20,6 +20,7 @@ returns-then-starts_with c =
           let short : nat_le (length b) 255 ≡ true = grind (arith, nat_tests) in
           let starts : starts_with nat_eq b mount_point ≡ true = cc w.starts_with.ensures.value in
           let rest = rw rest_of at c.are_components.ensures in
-          and_last (nat_le (length b) 255) (starts_with nat_eq b mount_point) (list_all is_component (between_slashes (drop 9 b))) c.are_components.result short starts rest
+          and_last (nat_le (length b) 255) (starts_with nat_eq b mount_point) (list_all is_component (between_slashes (drop 9 b)))
+          c.are_components.result short starts rest
       | else-b-le-LONGEST_PATH w ↦ grind (arith, nat_tests)
     ]

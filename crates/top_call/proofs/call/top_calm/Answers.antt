@@ -1,4 +1,4 @@
-use Rattle.fs_types.proofs.Common.{sym, ◌∙◌, rules}
+use Rattle.std.proofs.Common.{sym, ◌∙◌, rules}
 use Rattle.top_call.proofs.Outputs.{IsTopCall-sim}
 use Rattle.top_call.proofs.call.top_calm.Goals as goal
 

@@ -1,4 +1,4 @@
-use Rattle.fs_types.proofs.Common.{append_assoc}
+use Rattle.std.proofs.Common.{append_assoc}
 use Rattle.top_call.proofs.refusal.append_bad_line.Goals as goal
 
 pub returns : goal.returns

@@ -1,4 +1,5 @@
-use Rattle.fs_types.proofs.Common.{List, ℕ, Some, ap, sym, ◌∙◌, slice_get}
+use Rattle.std.proofs.Common.{List, ℕ, Some, ap, sym, ◌∙◌}
+use Rattle.std.specs.List.{slice_get}
 use Rattle.top_call.proofs.Runs.{entry-at}
 use Rattle.top_call.proofs.run.path_report.Goals as goal
 

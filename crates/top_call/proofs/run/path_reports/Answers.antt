@@ -1,4 +1,4 @@
-use Rattle.fs_types.proofs.Common.{◌∙◌}
+use Rattle.std.proofs.Common.{◌∙◌}
 use Rattle.top_call.proofs.JobReports.{journals-push, files-push}
 use Rattle.top_call.proofs.run.path_reports.Goals as goal
 

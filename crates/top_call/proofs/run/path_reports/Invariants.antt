@@ -1,5 +1,5 @@
-use Rattle.fs_types.proofs.Common.{◌≡◌, map, take}
-use Rattle.core_machine.specs.Vocabulary.{report_of}
+use Rattle.std.proofs.Common.{◌≡◌, map, take}
+use Rattle.core_machine.specs.MomentReport.{report_of}
 use Rattle.top_call.specs.JobReport.{journal_entry, file_entry}
 use Rattle.top_call.proofs.run.path_reports.Given as goal
 

@@ -1,5 +1,8 @@
-use Rattle.fs_types.proofs.Common.{◌++◌, ◌∷◌, [], sym, subst, rules, Contains}
-use Rattle.core_machine.specs.Vocabulary.{Moment, ready, Turn, Reaches}
+use Rattle.std.proofs.Common.{◌++◌, ◌∷◌, [], sym, subst, rules}
+use Rattle.std.specs.List.{Contains}
+use Rattle.core_machine.specs.Moment.{Moment, ready}
+use Rattle.core_machine.specs.Step.{Turn}
+use Rattle.core_machine.specs.LegalSoFar.{Reaches}
 use Rattle.top_call.proofs.Runs.{Reaches-push}
 use Rattle.top_call.proofs.run.run_to_end.Goals as goal
 

@@ -1,5 +1,7 @@
-use Rattle.fs_types.proofs.Common.{List}
-use Rattle.core_machine.specs.Vocabulary.{events_left, Turn, Reaches}
+use Rattle.std.proofs.Common.{List}
+use Rattle.core_machine.specs.Moment.{events_left}
+use Rattle.core_machine.specs.Step.{Turn}
+use Rattle.core_machine.specs.LegalSoFar.{Reaches}
 use Rattle.top_call.proofs.run.run_to_end.Given as goal
 
 -- the run has come here by some turns

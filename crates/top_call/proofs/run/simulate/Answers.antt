@@ -1,6 +1,6 @@
-use Rattle.fs_types.proofs.Common.{[], ap, subst, ◌∙◌}
-use Rattle.fs_script.specs.Vocabulary.{Report, IsLegal}
-use Rattle.core_machine.specs.Vocabulary.{Moment}
+use Rattle.std.proofs.Common.{[], ap, subst, ◌∙◌}
+use Rattle.fs_script.specs.Report.{Report, IsLegal}
+use Rattle.core_machine.specs.Moment.{Moment}
 use Rattle.top_call.proofs.Runs.{Reaches-unspent, IsPath-named, HasClients-job}
 use Rattle.top_call.proofs.JobReports.{report_view-is}
 use Rattle.top_call.proofs.run.simulate.Goals as goal

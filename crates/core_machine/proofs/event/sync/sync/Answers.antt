@@ -16,7 +16,8 @@ returns-clause-follows c = λ s. record {
       let event = sync-event s c.args.path.now c.args.own.now c.in-Some.extents opened c.in-Some.is any in
       sync-file s c.in-Some.extents c.append.new.self c.args.own.now.pending.items extents
       ∙ ap (effect_of s (bytes_of s) Sync (pending_lines c.args.own.now)) (ap (file_of s) (sym c.in-Some.is))
-      ∙ sym (ap (λ (e : Event). cond e.commits (effect_of s (bytes_of s) Sync (pending_lines c.args.own.now) (file_of s c.args.path.now.file)) (file_of s c.args.path.now.file)) event);
+      ∙ sym (ap (λ (e : Event). cond e.commits (effect_of s (bytes_of s) Sync (pending_lines c.args.own.now)
+      (file_of s c.args.path.now.file)) (file_of s c.args.path.now.file)) event);
   board = search rules;
   opened = search rules;
   pending = grind (arith, common_steps);

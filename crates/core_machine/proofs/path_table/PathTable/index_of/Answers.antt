@@ -11,8 +11,10 @@ returns-clause-place c =
 
 pub returns-clause-there : goal.returns-clause-there
 returns-clause-there c =
-    subst (λ r. IfSome r (λ i. slice_get c.args.self.now i ≡ Some c.args.p.now)) (sym (returns-clause-place c)) (slice_get-position c.args.self.now c.args.p.now)
+    subst (λ r. IfSome r (λ i. slice_get c.args.self.now i ≡ Some c.args.p.now)) (sym (returns-clause-place c))
+    (slice_get-position c.args.self.now c.args.p.now)
 
 pub returns-clause-absent : goal.returns-clause-absent
 returns-clause-absent c =
-    subst (λ r. IfNone r (Contains c.args.self.now c.args.p.now → ⊥)) (sym (returns-clause-place c)) (absent-from_position c.args.self.now c.args.p.now)
+    subst (λ r. IfNone r (Contains c.args.self.now c.args.p.now → ⊥)) (sym (returns-clause-place c))
+    (absent-from_position c.args.self.now c.args.p.now)

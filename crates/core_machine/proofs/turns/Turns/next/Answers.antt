@@ -12,7 +12,8 @@ pub index-requires : goal.index-requires
 index-requires c = omega (arith, ready-within (ready (goal.at.index-requires c).After-r), c.self.inside.programs.ok.0)
 
 pub unwrap-requires : goal.unwrap-requires
-unwrap-requires c = subst IsSome (sym c.next.ensures) (some-next (ready (goal.at.unwrap-requires c).After-r) c.index.result.now c.index.ensures)
+unwrap-requires c = subst IsSome (sym c.next.ensures) (some-next (ready (goal.at.unwrap-requires c).After-r) c.index.result.now
+    c.index.ensures)
 
 line : (c : After-unwrap) → IsReady c.self.inside c.r.inside.0 c.args.self.now c.args.r
     → (next_in c.args.self.now c.args.r ≡ Some c.unwrap.result) × (phase c.args.self.now.job c.unwrap.result ≡ c.args.self.now.phase)

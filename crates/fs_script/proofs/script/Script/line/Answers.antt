@@ -9,5 +9,7 @@ returns c =
     let lines = ap (λ (x : Job). x.lines) c.self.view_is in
     let k = c.in_ok-index.index in
     let found = copied_is c.deref.result.now k c.get.result c.get.ensures.lookup in
-    let place : line_at s c.args.n ≡ slice_get s.lines k = line_at_place s c.args.n k (omega (arith, c.in_ok-index.ensures, c.n.view_is)) (omega (arith, c.in_ok-index.ensures, c.n.view_is)) in
+    let place : line_at s c.args.n ≡ slice_get s.lines k =
+    line_at_place s c.args.n k (omega (arith, c.in_ok-index.ensures, c.n.view_is)) (omega (arith, c.in_ok-index.ensures, c.n.view_is))
+    in
     found ∙ ap (λ (xs : List Line). slice_get xs k) (c.deref.ensures.value ∙ lines) ∙ sym place

@@ -1,4 +1,5 @@
-use Rattle.fs_types.proofs.Common.{arith, ◌++◌, take, common_steps}
+use Rattle.std.proofs.Common.{arith, ◌++◌, take}
+use Rattle.std.proofs.lemmas.Grind.{common_steps}
 use Rattle.top_call.proofs.ToldLemmas.{bytes_then-portion}
 use Rattle.top_call.proofs.outside.reading.read_all.Goals as goal
 

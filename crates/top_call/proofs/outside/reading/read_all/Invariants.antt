@@ -1,4 +1,4 @@
-use Rattle.fs_types.proofs.Common.{◌≡◌, ◌≤◌, ◌-◌, vec_len}
+use Rattle.std.proofs.Common.{◌≡◌, ◌≤◌, ◌-◌, vec_len}
 use Rattle.top_call.specs.Told.{bytes_then}
 use Rattle.top_call.proofs.outside.reading.read_all.Given as goal
 

@@ -1,4 +1,5 @@
-use Rattle.fs_types.proofs.Common.{arith, common_steps}
+use Rattle.std.proofs.Common.{arith}
+use Rattle.std.proofs.lemmas.Grind.{common_steps}
 use Rattle.top_call.proofs.ToldLemmas.{then_bytes-portion}
 use Rattle.top_call.proofs.outside.writing.write_all.Goals as goal
 

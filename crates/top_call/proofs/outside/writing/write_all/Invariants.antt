@@ -1,4 +1,4 @@
-use Rattle.fs_types.proofs.Common.{◌≡◌, ◌≤◌, ◌-◌, length, take}
+use Rattle.std.proofs.Common.{◌≡◌, ◌≤◌, ◌-◌, length, take}
 use Rattle.top_call.specs.Told.{then_bytes}
 use Rattle.top_call.proofs.outside.writing.write_all.Given as goal
 

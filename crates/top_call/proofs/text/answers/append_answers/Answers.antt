@@ -1,5 +1,5 @@
-use Rattle.fs_types.proofs.Common.{◌≡◌, ◌+◌, Some, None, refl, ap, sym, ◌∙◌, arith}
-use Rattle.fs_script.specs.Vocabulary.{answer_at}
+use Rattle.std.proofs.Common.{◌≡◌, ◌+◌, Some, None, refl, ap, sym, ◌∙◌, arith}
+use Rattle.fs_types.specs.AnswerList.{answer_at}
 use Rattle.top_call.proofs.TextLemmas.{lines-none, lines-answered, lines-unanswered, lines-all}
 use Rattle.top_call.proofs.text.answers.append_answers.Goals.{in-Some+in_ok-append_answer_line, in_default}
 use Rattle.top_call.proofs.text.answers.append_answers.Goals as goal

@@ -1,5 +1,6 @@
-use Rattle.fs_types.proofs.Common.{◌≡◌, ◌++◌, flat_map}
-use Rattle.fs_script.specs.Vocabulary.{answer_line}
+use Rattle.std.proofs.Common.{◌≡◌, ◌++◌}
+use Rattle.std.specs.List.{flat_map}
+use Rattle.fs_script.specs.Text.{answer_line}
 use Rattle.top_call.proofs.TextLemmas.{answers_below}
 use Rattle.top_call.proofs.text.answers.append_answers.Given as goal
 

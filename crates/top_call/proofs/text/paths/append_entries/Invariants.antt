@@ -1,5 +1,6 @@
-use Rattle.fs_types.proofs.Common.{◌≡◌, ◌++◌, take, flat_map}
-use Rattle.fs_script.specs.Vocabulary.{entry_text}
+use Rattle.std.proofs.Common.{◌≡◌, ◌++◌, take}
+use Rattle.std.specs.List.{flat_map}
+use Rattle.fs_script.specs.Text.{entry_text}
 use Rattle.top_call.proofs.text.paths.append_entries.Given as goal
 
 abbrev pub invariant-loop-line : goal.invariant-loop-line

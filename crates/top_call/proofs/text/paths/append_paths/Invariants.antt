@@ -1,4 +1,5 @@
-use Rattle.fs_types.proofs.Common.{◌≡◌, ◌++◌, take, flat_map}
+use Rattle.std.proofs.Common.{◌≡◌, ◌++◌, take}
+use Rattle.std.specs.List.{flat_map}
 use Rattle.top_call.specs.JobReport.{path_text}
 use Rattle.top_call.proofs.text.paths.append_paths.Given as goal
 

@@ -1,4 +1,6 @@
-use Rattle.fs_types.proofs.Common.{None, length, refl, replicate, length-replicate}
+use Rattle.std.proofs.Common.{None, length, refl}
+use Rattle.std.specs.Prelude.{replicate}
+use Rattle.std.proofs.lemmas.List.{length-replicate}
 use Rattle.top_call.proofs.outside.no_host.NoDevSpillDev.write_at.Goals as goal
 
 pub returns-clause-open : goal.returns-clause-open
