@@ -76,16 +76,12 @@ Less-from_others Less unequal ungreater = refl
 Less-from_others Equal unequal ungreater = absurd (unequal refl)
 Less-from_others Greater unequal ungreater = absurd (ungreater refl)
 
--- `Greater` reversed is `Less`
-is_lt-from_Greater : (o : Ordering) → o ≡ Greater → is_lt (ordering_reverse o) ≡ true
-is_lt-from_Greater o e = ap (λ x. is_lt (ordering_reverse x)) e
-
 module _ {K : Type 0} {R : K → K → Ordering} (order : IsTotalOrder R) {E : K → K → Bool} (ties : (x y : K) → E x y ≡ eq_by_cmp R x y) where
   -- an element is below the next where the next is not below it, nor equal to it
   Less-from_neighbours : (x y : K) → is_lt (R y x) ≡ false → E x y ≡ false → R x y ≡ Less
   Less-from_neighbours x y not_after apart =
       Less-from_others (R x y) (λ e. true≢false (sym (ties x y ∙ ap is_eq e) ∙ apart))
-      (λ e. true≢false (sym (ap is_lt (order.antisymm y x) ∙ is_lt-from_Greater (R x y) e) ∙ not_after))
+      (λ e. true≢false (sym (ap is_lt (order.antisymm y x) ∙ (ap (λ x. is_lt (ordering_reverse x)) e)) ∙ not_after))
 
   -- so a sorted list of distinct elements rises
   IsStrictlySortedBy-from_distinct : (ks : List K) → IsSorted R ks → IsDistinct E ks → IsStrictlySortedBy R ks

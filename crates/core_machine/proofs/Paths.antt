@@ -5,15 +5,12 @@ use Rattle.fs_types.proofs.Common.{nat_list_cmp_total, false_from_ne_true, cond-
 use Rattle.fs_types.proofs.Common.{bytes_eq-Decides}
 use Rattle.fs_script.specs.Vocabulary.{AreRising, journal_of}
 
--- a path is not below itself
-not_below_itself : (p : List ℕ) → is_lt (slice_cmp nat_cmp p p) ≡ true → ⊥
-not_below_itself p below = true≢false (sym below ∙ ap is_lt (tied_itself nat_list_cmp_total p))
-
 -- a path that is below each of a list is not among them
 pub not_among : (p : List ℕ) (ps : List (List ℕ)) (k : ℕ) → AllByRecursion (λ q. is_lt (slice_cmp nat_cmp p q) ≡ true) ps
     → slice_get ps k ≡ Some p → ⊥
 not_among p [] k below at = absurd cc
-not_among p (q ∷ qs) zero below at = not_below_itself p (subst (λ r. is_lt (slice_cmp nat_cmp p r) ≡ true) (same_Some q p at) below.0)
+not_among p (q ∷ qs) zero below at = true≢false (sym (subst (λ r. is_lt (slice_cmp nat_cmp p r) ≡ true) (same_Some q p at) below.0)
+    ∙ ap is_lt (tied_itself nat_list_cmp_total p))
 not_among p (q ∷ qs) (suc k) below at = not_among p qs k below.1 at
 
 -- a path stands at one place
@@ -37,17 +34,13 @@ pub journal_of-later : (j : List ℕ × List ℕ) (js : List (List ℕ × List �
     → journal_of (j ∷ js) p ≡ journal_of js p
 journal_of-later j js p e = cond-false (bytes_eq j.0 p) j.1 (journal_of js p) e
 
--- at the first path its own journal is found
-pub journal_of-first : (j : List ℕ × List ℕ) (js : List (List ℕ × List ℕ)) (p : List ℕ) → bytes_eq j.0 p ≡ true
-    → journal_of (j ∷ js) p ≡ j.1
-journal_of-first j js p e = cond-true (bytes_eq j.0 p) j.1 (journal_of js p) e
-
 -- the journal of the path at a place is the one at that place
 pub journal_of-zip : (ps js : List (List ℕ)) (i : ℕ) (p j : List ℕ) → AreRising ps → slice_get ps i ≡ Some p → slice_get js i ≡ Some j
     → journal_of (zip ps js) p ≡ j
 journal_of-zip [] js i p j rising at beside = absurd cc
 journal_of-zip (q ∷ qs) [] i p j rising at beside = absurd cc
-journal_of-zip (q ∷ qs) (k ∷ ks) zero p j rising at beside = journal_of-first (q, k) (zip qs ks) p (same_bytes q p (same_Some q p at))
+journal_of-zip (q ∷ qs) (k ∷ ks) zero p j rising at beside =
+    cond-true (bytes_eq q p) k (journal_of (zip qs ks) p) (same_bytes q p (same_Some q p at))
     ∙ same_Some k j beside
 journal_of-zip (q ∷ qs) (k ∷ ks) (suc i) p j rising at beside =
     journal_of-later (q, k) (zip qs ks) p (other_bytes q p (λ e. not_among q qs i rising.0 (at ∙ ap Some (sym e))))

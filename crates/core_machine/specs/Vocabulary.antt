@@ -7,7 +7,7 @@ pub use Rattle.fs_script.specs.declared.line.Op.TheVariants.{Sync}
 pub use Rattle.fs_script.specs.declared.line.OpLine.{OpLine}
 pub use Rattle.core_machine.specs.Core.{moment}
 pub use Rattle.core_machine.specs.Doing.{nothing, Doing}
-pub use Rattle.core_machine.specs.Event.{Event, PathNow, if_open, known_of, Known, committed_as}
+pub use Rattle.core_machine.specs.Event.{Event, PathNow, if_open, known_of, committed_as}
 pub use Rattle.core_machine.specs.Events.Create.{create_over, create_event}
 pub use Rattle.core_machine.specs.Events.Read.{shows, read_over, read_event}
 pub use Rattle.core_machine.specs.Events.Sync.{sync_over, sync_event}

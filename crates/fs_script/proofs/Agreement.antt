@@ -17,8 +17,7 @@ pub over_answers-agree : {X : Type 0} (step : Op → Answer → ℕ → X → X)
     → AgreeBefore s r p A B n → over_answers step x s A r p n ≡ over_answers step x s B r p n
 over_answers-agree step x s r p A B zero h = refl
 over_answers-agree step x s r p A B (suc n) h =
-    one (own_at s r p n) (h n (omega arith))
-    ∙ ap (one_more step (own_at s r p n) (B n) n) (over_answers-agree step x s r p A B n
+    one (own_at s r p n) (h n (omega arith)) ∙ ap (one_more step (own_at s r p n) (B n) n) (over_answers-agree step x s r p A B n
     (AgreeBefore-earlier s r p A B n (suc n) (omega arith) h))
   where
     one : (o : Option Op) → (IsSome o → A n ≡ B n) → one_more step o (A n) n (over_answers step x s A r p n)

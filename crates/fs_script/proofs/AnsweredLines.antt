@@ -24,8 +24,7 @@ with_passing P a rest ((i, b) ∷ xs) rising same e go =
     elim (cases_eq i a) [
       | inl is ↦
           let next : suc i ≡ a + 1 = omega arith in
-          ap (λ k. k ∷ map (λ x. x.0) xs) is
-          ∙ ap (λ ks. a ∷ ks) (go xs (subst (λ k. IsRisingFrom k xs) next rising.1)
+          ap (λ k. k ∷ map (λ x. x.0) xs) is ∙ ap (λ ks. a ∷ ks) (go xs (subst (λ k. IsRisingFrom k xs) next rising.1)
           (λ n from. ap is_some (sym (answer_at-other i n b xs (λ h. omega arith))) ∙ same n (omega arith)))
       | inr other ↦
           let from = rising.0 in

@@ -42,8 +42,7 @@ line_view-agree s A B J n o h same i = record {
 
 -- answers of others, and later answers of the same client, leave it fitting
 pub Fits-agree : {told : List ℕ} {s : Job} {A : Answering} (B : Answering) {J : List ℕ} {n : ℕ} {o : OpLine} {a : Answer}
-    → AgreeBefore s o.rank o.path A B n → SamePending s A B J
-    → Fits told s A J n o a → Fits told s B J n o a
+    → AgreeBefore s o.rank o.path A B n → SamePending s A B J → Fits told s A J n o a → Fits told s B J n o a
 Fits-agree {told} {s} {A} B {J} {n} {o} {a} h same fits = record {
   opened = subst (λ b. AgreesWithOpen o.op b a) (over_answers-agree _ _ s o.rank o.path A B n h) fits.opened;
   version = IfSome-agree s A B J n o (version_of a) h fits.version;
@@ -101,8 +100,7 @@ IsAtFront-push w K g (Some x) v h = h
 -- with a longer journal, the same files at the versions that an answer prints, and no file taken from a writer
 IsInTable-push : (compared : Type 0) (w : LineView) (K : List ℕ) (g : ℕ → File ℕ) (op : Op) (a : Answer)
     → ((v n : ℕ) → entry w.journal v ≡ Some n → entry K v ≡ Some n) → IfSome (version_of a) (λ v. g v ≡ w.file v)
-    → (MayWrite w → MayWrite (longer_view w K g))
-    → IsInTable compared w op a → IsInTable compared (longer_view w K g) op a
+    → (MayWrite w → MayWrite (longer_view w K g)) → IsInTable compared w op a → IsInTable compared (longer_view w K g) op a
 IsInTable-push compared w K g op (answers.Done v) entries file writes h =
     MatchBool-push (commits op w.pending) (entries v w.number) (λ k. (k.0, subst (λ f. IsSome f) (sym file) k.1)) h
 IsInTable-push compared w K g op (answers.Wrote slots) entries file writes h = Accepts-push w K g (brought op) slots writes h
@@ -132,8 +130,7 @@ Fits-push_from {told} {s} {A} {J} m {n} {o} {a} later writes fits =
 
 -- a commit of no earlier phase, at the journal's end, leaves it fitting where its front was within the journal
 pub Fits-push : {told : List ℕ} {s : Job} {A : Answering} {J : List ℕ} (m : ℕ) {n : ℕ} {o : OpLine} {a : Answer} → phase s n ≤ phase s m
-    → front s A J o.rank o.path n ≤ length J
-    → Fits told s A J n o a → Fits told s A (J ++ m ∷ []) n o a
+    → front s A J o.rank o.path n ≤ length J → Fits told s A J n o a → Fits told s A (J ++ m ∷ []) n o a
 Fits-push {told} {s} {A} {J} m {n} {o} {a} later within fits =
     Fits-push_from m later (λ may. subst (λ f. IsTrue (is_open_to_change f))
     (sym (state_in-push s (bytes_of s) A J m (front s A J o.rank o.path n) within)) may) fits

@@ -31,16 +31,18 @@ five_lines = record {
 }
 
 abbrev pub five_bytes : List ℕ
-five_bytes = codes "unifyfs 1 servers=1 clients=1 chunk=64 shmem=4 spill=0" ++ 10 ∷ [] ++ codes "0 create /unifyfs/a" ++ 10 ∷ [] ++ codes "0
-    write /unifyfs/a 0 t:hello" ++ 10 ∷ []
+five_bytes = codes "unifyfs 1 servers=1 clients=1 chunk=64 shmem=4 spill=0" ++ 10 ∷ [] ++ codes "0 create /unifyfs/a" ++ 10 ∷ []
+    ++ codes "0 write /unifyfs/a 0 t:hello" ++ 10 ∷ []
     ++ codes "0 sync /unifyfs/a" ++ 10 ∷ [] ++ codes "0 read /unifyfs/a 1 3" ++ 10 ∷ []
 
 five_bytes_read : job_of five_bytes ≡ Ok five_lines
 five_bytes_read = refl
 
 abbrev pub five_answers : Answering
-five_answers = answer_at ((2, answers.Done 1) ∷ (3, answers.Wrote 1) ∷ (4, answers.Done 2) ∷ (5,
-    answers.Shown 2 3 (bodies.Hex (codes "ell"))) ∷ [])
+five_answers = answer_at ((2, answers.Done 1) ∷ (3, answers.Wrote 1) ∷ (4, answers.Done 2) ∷ (
+  5,
+  answers.Shown 2 3 (bodies.Hex (codes "ell")),
+) ∷ [])
 
 -- the create, and then the sync
 abbrev pub five_journal : List ℕ
@@ -82,16 +84,24 @@ write_fits = record { opened = refl; version = tt; answer = (refl, omega arith, 
 sync_fits : Fits-five 4 (on_a ops.Sync) (answers.Done 2)
 sync_fits = record {
   opened = refl;
-  version = record { front = omega arith; length = omega arith; no_later =
-      (record { phase = omega arith; own = λ _. omega arith }, (record { phase = omega arith; own = λ _. omega arith }, tt)) };
+  version = record {
+    front = omega arith;
+    length = omega arith;
+    no_later =
+        (record { phase = omega arith; own = λ _. omega arith }, (record { phase = omega arith; own = λ _. omega arith }, tt));
+  };
   answer = refl;
 }
 
 read_fits : Fits-five 5 (on_a (ops.Read 1 3)) (answers.Shown 2 3 (bodies.Hex (codes "ell")))
 read_fits = record {
   opened = refl;
-  version = record { front = omega arith; length = omega arith; no_later =
-      (record { phase = omega arith; own = λ _. omega arith }, (record { phase = omega arith; own = λ _. omega arith }, tt)) };
+  version = record {
+    front = omega arith;
+    length = omega arith;
+    no_later =
+        (record { phase = omega arith; own = λ _. omega arith }, (record { phase = omega arith; own = λ _. omega arith }, tt));
+  };
   answer = record { count = refl; same = λ _. refl };
 }
 

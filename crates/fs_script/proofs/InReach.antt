@@ -77,8 +77,7 @@ IsNoLater-now {s} {A} {p} {J} {n} r legal next mine later = AllByRecursion-from_
 
 -- each from its front up to the length of the journal
 pub IsInReach-now : {s : Job} {A : Answering} {J : List ℕ} {n : ℕ} (o : OpLine) (v : ℕ) → IsLegalJournal s A o.path J → ComesNext s A n
-    → op_at s n ≡ Some o → IsOfNoEarlierPhase s n J
-    → front s A J o.rank o.path n ≤ v → v ≤ length J → IsInReach s A J n o v
+    → op_at s n ≡ Some o → IsOfNoEarlierPhase s n J → front s A J o.rank o.path n ≤ v → v ≤ length J → IsInReach s A J n o v
 IsInReach-now {s} {A} {J} {n} o v legal next is later from to = record {
   front = from;
   length = to;

@@ -88,8 +88,7 @@ answered-in_journal {s} {A} {p} k m legal at = answered_from-commit s A p m (suc
 
 -- nothing pending at the lines of a legal journal changes
 pub pending_at-in_journal : {s : Job} {A B : Answering} {p : List ℕ} {J : List ℕ} {n : ℕ} {a : Answer} → AddsAnswer A n a B
-    → ComesNext s A n → IsLegalJournal s A p J
-    → SamePending s A B J
+    → ComesNext s A n → IsLegalJournal s A p J → SamePending s A B J
 pending_at-in_journal {s} {A} {B} {p} {J} {n} {a} adds next legal =
     AllByRecursion-from_get (λ m. pending_at s A m ≡ pending_at s B m) J (λ k m at.
     let given = some_of (A m) (answered-in_journal k m legal at) in
@@ -145,8 +144,7 @@ IsLegalEntry-longer {s} {A} {J} n {k} {m} below other legal = record {
 IsLegalEntry-new : {s : Job} {A B : Answering} {p : List ℕ} {J : List ℕ} {n : ℕ} {a : Answer} → AddsAnswer A n a B → ComesNext s A n
     → IsLegalJournal s A p J
     → committed s B p n ≡ Some (suc (length J)) → enabled_in (op_at s n) (λ op. is_enabled op (state s A J (length J))) ≡ true
-    → IsOfNoEarlierPhase s n J
-    → IsLegalEntry s B p (J ++ n ∷ []) (length J) n
+    → IsOfNoEarlierPhase s n J → IsLegalEntry s B p (J ++ n ∷ []) (length J) n
 IsLegalEntry-new {s} {A} {B} {p} {J} {n} {a} adds next legal commits enabled later = record {
   committed = commits;
   once = λ i at. elim (slice_get-push_cases J n i n at) [
@@ -169,8 +167,7 @@ IsLegalEntry-new {s} {A} {B} {p} {J} {n} {a} adds next legal commits enabled lat
 pub IsLegalJournal-commit : {s : Job} {A B : Answering} {p : List ℕ} {J : List ℕ} {n : ℕ} {a : Answer} → AddsAnswer A n a B
     → ComesNext s A n
     → committed s B p n ≡ Some (suc (length J)) → enabled_in (op_at s n) (λ op. is_enabled op (state s A J (length J))) ≡ true
-    → IsOfNoEarlierPhase s n J
-    → IsLegalJournal s A p J → IsLegalJournal s B p (J ++ n ∷ [])
+    → IsOfNoEarlierPhase s n J → IsLegalJournal s A p J → IsLegalJournal s B p (J ++ n ∷ [])
 IsLegalJournal-commit {s} {A} {B} {p} {J} {n} {a} adds next commits enabled later legal =
     let same = pending_at-in_journal adds next legal in
     record {

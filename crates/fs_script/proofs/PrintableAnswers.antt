@@ -1,10 +1,10 @@
 -- An answer that fits a legal journal is printable, where the bytes that it shows are compared.
-use Rattle.fs_types.proofs.Common.{◌≡◌, ℕ, ◌^◌, ◌<◌, ◌≤◌, nat_le, List, length, drop, Option, Some, None, sym, subst, arith, div_ceil}
-use Rattle.fs_types.proofs.Common.{div-le_self, cond_both, leb-true, All-take, All-drop, recursion_from_All}
+use Rattle.fs_types.proofs.Common.{◌≡◌, ℕ, ◌^◌, ◌<◌, nat_le, List, length, drop, Option, Some, None, sym, subst, arith, div-le_self}
+use Rattle.fs_types.proofs.Common.{cond_both, leb-true, All-take, All-drop, recursion_from_All}
 use Rattle.md5.specs.Md5.{md5}
-use Rattle.fs_script.specs.Vocabulary.{Answer, Body, HEX_LIMIT, TRANSFER_LIMIT, shown, File, OpLine, Op, Text, Job, op_at, brought, Range}
-use Rattle.fs_script.specs.Vocabulary.{asked, Answering, state, AreTold, LineView, line_view, Accepts, ShowsAsked, Fits, body_of}
-use Rattle.fs_script.specs.Vocabulary.{IsLegalJournal, IsPrintableBody, IsPrintableAnswer}
+use Rattle.fs_script.specs.Vocabulary.{Answer, Body, HEX_LIMIT, shown, File, OpLine, Op, Text, Job, op_at, brought, Range, asked, Answering}
+use Rattle.fs_script.specs.Vocabulary.{state, AreTold, LineView, line_view, Accepts, ShowsAsked, Fits, body_of, IsLegalJournal}
+use Rattle.fs_script.specs.Vocabulary.{IsPrintableBody, IsPrintableAnswer}
 use Rattle.fs_script.specs.Grammar.{IsJob, IsOp}
 use Rattle.fs_types.proofs.CallerLemmas.{length-shown}
 use Rattle.fs_script.proofs.Digests.{IsDigest-md5}
@@ -17,13 +17,10 @@ use Rattle.fs_script.specs.declared.line.Op.TheVariants as ops
 
 -- ---- slots
 
-parts_are_few : (len chunk slots : ℕ) → len ≤ TRANSFER_LIMIT → slots ≡ div_ceil len chunk → slots < 2 ^ 32
-parts_are_few len chunk slots short is = omega (arith, div-le_self len chunk)
-
 -- no write fills more slots than it has bytes
 slots_are_few : (w : LineView) (op : Op) (slots : ℕ) → IsOp op → Accepts w (brought op) slots → slots < 2 ^ 32
 slots_are_few w ops.Create slots is accepts = absurd accepts
-slots_are_few w (ops.Write off (Text bytes)) slots is accepts = parts_are_few (length bytes) w.chunk slots is.1.1 accepts.2
+slots_are_few w (ops.Write off (Text bytes)) slots is accepts = omega (arith, div-le_self (length bytes) w.chunk)
 slots_are_few w ops.Sync slots is accepts = absurd accepts
 slots_are_few w (ops.Read off len) slots is accepts = absurd accepts
 

@@ -48,8 +48,7 @@ answered-cases {B} m {n} {a} b adds given new old =
 
 -- the answers on a path go on fitting its journal, where the new one, if it is on it, fits
 AllFit-kept : {told : List ℕ} {s : Job} {A B : Answering} {J : List ℕ} {n : ℕ} {o : OpLine} {a : Answer} {p : List ℕ}
-    → IsNextAnswer s A n o a B → IsLegalJournal s A p J → AllFit told s A p J
-    → (o.path ≡ p → Fits told s A J n o a) → AllFit told s B p J
+    → IsNextAnswer s A n o a B → IsLegalJournal s A p J → AllFit told s A p J → (o.path ≡ p → Fits told s A J n o a) → AllFit told s B p J
 AllFit-kept {told} {s} {A} {B} {J} {n} {o} {a} {p} here legal fit new =
     let same = pending_at-in_journal here.adds here.next legal in
     record {
@@ -82,8 +81,7 @@ IsLegalSoFar-kept {told} {s} {A} {B} {journals} {n} {o} {a} here so_far none fit
 
 -- the answers on the path of a commit go on fitting, and its own fits in the longer journal
 AllFit-commit : {told : List ℕ} {s : Job} {A B : Answering} {J : List ℕ} {n : ℕ} {o : OpLine} {a : Answer} → IsNextAnswer s A n o a B
-    → IsLegalJournal s A o.path J → AllFit told s A o.path J
-    → Fits told s A (J ++ n ∷ []) n o a → AllFit told s B o.path (J ++ n ∷ [])
+    → IsLegalJournal s A o.path J → AllFit told s A o.path J → Fits told s A (J ++ n ∷ []) n o a → AllFit told s B o.path (J ++ n ∷ [])
 AllFit-commit {told} {s} {A} {B} {J} {n} {o} {a} here legal fit new =
     let same = pending_at-in_journal here.adds here.next legal in
     let longer = AllByRecursion-push (λ m. pending_at s A m ≡ pending_at s B m) J n same (pending_at-next s here.adds) in

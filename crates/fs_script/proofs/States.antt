@@ -19,10 +19,6 @@ pub after_all-append : {X : Type 0} (s : Job) (c : Cells X) (A : Answering) (J K
 after_all-append s c A [] K f = refl
 after_all-append s c A (n ∷ J) K f = after_all-append s c A J K (effect s c A n f)
 
-pub after_all-push : {X : Type 0} (s : Job) (c : Cells X) (A : Answering) (J : List ℕ) (n : ℕ) (f : File X)
-    → after_all s c A (J ++ n ∷ []) f ≡ effect s c A n (after_all s c A J f)
-after_all-push s c A J n f = after_all-append s c A J (n ∷ []) f
-
 -- a later commit changes no version that was there
 pub state_in-push : {X : Type 0} (s : Job) (c : Cells X) (A : Answering) (J : List ℕ) (n v : ℕ) → v ≤ length J
     → state_in s c A (J ++ n ∷ []) v ≡ state_in s c A J v
@@ -35,7 +31,7 @@ state_in-push_last s c A J n v is =
     let size = length_push J n in
     let whole = take_all v (J ++ n ∷ []) (omega arith) in
     let before = take_all (length J) J (omega arith) in
-    ap (λ K. after_all s c A K None) whole ∙ (after_all-push s c A J n None
+    ap (λ K. after_all s c A K None) whole ∙ ((after_all-append s c A J (n ∷ []) None)
     ∙ sym (ap (λ K. effect s c A n (after_all s c A K None)) before))
 
 -- ---- answers come

@@ -57,8 +57,7 @@ five_printable = record {
             answer = record {
               version = omega arith;
               count = omega arith;
-              shown =
-                  record { size = omega arith; bytes = are_bytes (codes "ell") refl };
+              shown = record { size = omega arith; bytes = are_bytes (codes "ell") refl };
             };
           },
           tt,
@@ -68,14 +67,7 @@ five_printable = record {
   );
   journals = (record { path = refl; lines = (omega arith, (omega arith, tt)) }, tt);
   files = (
-    record {
-      path = refl;
-      state = record {
-        count = omega arith;
-        digest =
-            record { size = refl; bytes = are_bytes hello_digest refl };
-      };
-    },
+    record { path = refl; state = record { count = omega arith; digest = record { size = refl; bytes = are_bytes hello_digest refl } } },
     tt,
   );
   as_many = refl;

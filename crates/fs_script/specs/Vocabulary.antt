@@ -29,7 +29,7 @@ pub use Rattle.fs_script.specs.SoFar.{IsLegalSoFar, Journals, IsNextAnswer, Push
 pub use Rattle.fs_script.specs.Text.{text, answer_text, answer_line, body_text, entry_text, journal_line, flag_text, file_text, file_line}
 pub use Rattle.fs_script.specs.Text.{path_lines, line_feed}
 pub use Rattle.fs_script.specs.declared.fault.ScriptFault.{ScriptFault}
-pub use Rattle.fs_script.specs.declared.limits.TheConstants.{TRANSFER_LIMIT, DIGEST_LIMIT}
+pub use Rattle.fs_script.specs.declared.limits.TheConstants.{DIGEST_LIMIT}
 pub use Rattle.fs_script.specs.declared.line.Data.TheVariants.{Text}
 pub use Rattle.fs_script.specs.declared.line.Line.{Line}
 pub use Rattle.fs_script.specs.declared.line.Op.{Op}

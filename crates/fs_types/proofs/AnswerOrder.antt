@@ -77,8 +77,7 @@ answer_at-each xs k rising = All-from_recursion (λ (x : ℕ × Answer). answer_
         → AllByRecursion (λ x. answer_at ((n, a) ∷ ys) x.0 ≡ Some x.1) zs
     past n a ys [] above each = tt
     past n a ys ((m, b) ∷ zs) above each = (
-      answer_at-other n m a ys (omega (arith, above.0))
-          ∙ each.0,
+      answer_at-other n m a ys (omega (arith, above.0)) ∙ each.0,
       past n a ys zs (IsRisingFrom-lower zs (suc n) (suc m) (omega (arith, above.0)) above.1) each.1,
     )
 

@@ -59,7 +59,7 @@ pub use Rattle.std.proofs.lemmas.Str.Parse.{IsNumeralModel, numerals_by_value, t
 pub use Rattle.std.specs.Char.{is_ascii_digit, digit_value}
 pub use Rattle.std.specs.Cmp.{IsTotalOrder, unsigned_ties}
 pub use Rattle.std.specs.Cmp.Lexicographic.{slice_cmp, pointwise, lists_ties}
-pub use Rattle.std.specs.Int.{byte_at, bytes_low_first, to_le_bytes, div_ceil, from_bool}
+pub use Rattle.std.specs.Int.{byte_at, bytes_low_first, to_le_bytes, from_bool}
 pub use Rattle.std.specs.List.{list_all, starts_with, join_with_byte, AllByRecursion, range_with_len, IsDistinct, slice_split}
 pub use Rattle.std.specs.List.{position_or_len, reduce, cons_option, list_any, prefix_len}
 pub use Rattle.std.specs.Ordering.{eq_by_cmp, ordering_reverse}

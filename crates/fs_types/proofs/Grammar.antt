@@ -91,10 +91,6 @@ name_tests bytes h =
     let inner = and_parts some short middle.0 in
     (some_from_test (length bytes) inner.0, leb-true (length bytes) 255 inner.1, outer.1)
 
--- a text after the mount point, with the characters of names, is a name
-mounted_name : (rest : List ℕ) → length (mount_point ++ rest) ≤ 255 → list_all is_name_part rest ≡ true → IsName (mount_point ++ rest)
-mounted_name rest l h = name_from_tests (mount_point ++ rest) (omega arith) l refl h
-
 -- a path is within the grammar of names
 pub name_from_path : (bytes : List ℕ) → IsPath bytes → IsName bytes
 name_from_path bytes h =
@@ -103,7 +99,7 @@ name_from_path bytes h =
     let joined = join_with_byte-slice_split 47 rest in
     let parts = subst (λ text. list_all is_name_part text ≡ true) joined (joined_parts (between_slashes rest) tests.2) in
     let short = subst (λ text. length text ≤ 255) tests.1 tests.0 in
-    subst (λ text. IsName text) (sym tests.1) (mounted_name rest short parts)
+    subst (λ text. IsName text) (sym tests.1) (name_from_tests (mount_point ++ rest) (omega arith) short refl parts)
 
 -- a name has 1 to 255 bytes
 pub name_bounds : (bytes : List ℕ) → IsName bytes → (1 ≤ length bytes) × (length bytes ≤ 255)
@@ -127,8 +123,7 @@ mounted_from_path bytes h =
       between_slashes rest,
       omega arith,
       AllPass-from_list_all is_component (between_slashes rest) tests.2,
-      tests.1
-          ∙ ap (λ text. mount_point ++ text) (sym (join_with_byte-slice_split 47 rest)),
+      tests.1 ∙ ap (λ text. mount_point ++ text) (sym (join_with_byte-slice_split 47 rest)),
     )
 
 -- components that are joined by slashes are cut there again

@@ -2,7 +2,7 @@
 use Rattle.fs_types.proofs.Common.{◌≡◌, ℕ, ◌+◌, ◌-◌, ◌<◌, ◌≤◌, max, min, cond, ltb, leb, List, [], ◌∷◌, ◌++◌, length, take, drop, get_or}
 use Rattle.fs_types.proofs.Common.{sym, ap, subst, ◌∙◌, arith, inl, inr, ◌&&◌, cases_lt, nat_tests, All-from_recursion, length-take-le}
 use Rattle.fs_types.proofs.Common.{length-drop, get_or_append_left, get_or-append_right, get_or-take, get_or-drop, take_more, map_push}
-use Rattle.fs_script.specs.Vocabulary.{LONGEST_FILE, written, put, Job, payload, offset, bytes_of, put_lines}
+use Rattle.fs_script.specs.Vocabulary.{LONGEST_FILE, put, Job, payload, offset, bytes_of, put_lines}
 use Rattle.core_machine.specs.Vocabulary.{Extent, IsExtent, AreExtents, lines_of_extents, bytes_of_extents, byte_over}
 use borrow.Rule.Slice.PartMut.{put_mid, post_of}
 use Rattle.fs_types.proofs.CallerLemmas.{length-put, get_or-put}
@@ -46,9 +46,6 @@ overlaid bytes out part at len off from to k is_from is_to lt whole is_part with
       ]
     ]
 
-within_longest : (xs ys : List ℕ) (off : ℕ) → off + length ys ≤ LONGEST_FILE → written 0 xs off ys ≡ put 0 xs off ys
-within_longest xs ys off le = grind (arith, nat_tests)
-
 -- the bytes of extents and one more
 bytes_of_extents-push : {s : Job} (xs : List Extent) {x : Extent} → IsExtent s x
     → bytes_of_extents s (xs ++ x ∷ []) ≡ put 0 (bytes_of_extents s xs) x.at (payload s x.line)
@@ -56,8 +53,7 @@ bytes_of_extents-push {s} xs {x} is =
     ap (λ (ns : List ℕ). put_lines s (bytes_of s) ns []) (map_push (λ (y : Extent). y.line) xs x)
     ∙ put_lines-append s (bytes_of s) (lines_of_extents xs) (x.line ∷ []) []
     ∙ (let le : offset s x.line + length (payload s x.line) ≤ LONGEST_FILE = omega (arith, is.at, is.len, is.end) in
-    within_longest (bytes_of_extents s xs) (payload s x.line) (offset s x.line) le)
-    ∙ ap (λ o. put 0 (bytes_of_extents s xs) o (payload s x.line)) (sym is.at)
+    (grind (arith, nat_tests))) ∙ ap (λ o. put 0 (bytes_of_extents s xs) o (payload s x.line)) (sym is.at)
 
 length-bytes_of_extents-push : {s : Job} (xs : List Extent) {x : Extent} → IsExtent s x
     → length (bytes_of_extents s (xs ++ x ∷ [])) ≡ max (length (bytes_of_extents s xs)) (x.at + x.len)

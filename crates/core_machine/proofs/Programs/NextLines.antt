@@ -66,8 +66,7 @@ module _ (s : Job) (ps : List Program) (are : ArePrograms s ps) where
     IsInPhase-none none =
         record {
           none_earlier = λ r n next. absurd (never r n next);
-          none_left =
-              λ empty r lt. none-from (next_in (places_of s ps k) r) (never r);
+          none_left = λ empty r lt. none-from (next_in (places_of s ps k) r) (never r);
         }
       where
         never : (r n : ℕ) → next_in (places_of s ps k) r ≡ Some n → ⊥

@@ -67,8 +67,7 @@ StandsForClient-own {s} {A} {B} {now} {n} {o} {a} {r} {p} {x} {y} {k} h own foll
     let knows : Knows s at y k = record {
       noted = stands.known ∙ at_old k.noted.version stands.within;
       board = board;
-      now =
-          ap known_of owns.file;
+      now = ap known_of owns.file;
     } in
     record {
       opened = follows.opened ∙ ap (λ b. opens o.op a || b) stands.opened ∙ sym (over_answers-own _ _ h.adds own);

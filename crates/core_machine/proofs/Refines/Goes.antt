@@ -17,8 +17,7 @@ pub record Goes (s : Job) (turns : Places) (r n : ℕ) : Type 0 where
   pub now : phase s n ≡ turns.phase
 
 pub goes-kept : {s : Job} {paths : List (List ℕ)} {states : List PathState} {answers : Given} {turns : Places} (r n : ℕ)
-    → Holds s paths states answers turns
-    → Contains (going turns) r → next_in turns r ≡ Some n → Goes s turns r n
+    → Holds s paths states answers turns → Contains (going turns) r → next_in turns r ≡ Some n → Goes s turns r n
 goes-kept {turns} r n held has next =
     let goes = Goes-from_Contains turns r has in
     let same = same_Some goes.0 n (sym goes.1.next ∙ next) in

@@ -22,9 +22,6 @@ module _ {X : Type 0} where
   slice_get-set_other (x ∷ xs) (suc i) zero y differ = refl
   slice_get-set_other (x ∷ xs) (suc i) (suc j) y differ = slice_get-set_other xs i j y (λ e. differ (ap suc e))
 
-  pub set-same : (xs : List X) (i : ℕ) (x : X) → slice_get xs i ≡ Some x → set xs i x ≡ xs
-  set-same xs i x is = ap (set xs i) (sym (get_or_from_slice_get xs i x x is)) ∙ set-get_or xs i x
-
   pub slice_get-map_some : {Y : Type 0} (f : X → Y) (xs : List X) (i : ℕ) (x : X) → slice_get xs i ≡ Some x
       → slice_get (map f xs) i ≡ Some (f x)
   slice_get-map_some f xs i x is = slice_get-map f xs i ∙ ap (option_map f) is
@@ -41,8 +38,7 @@ with_entry-behind p n (q ∷ qs) (k ∷ ks) behind =
     rw other (ap (λ rest. (q, k) ∷ rest) (with_entry-behind p n qs ks behind.1))
 
 with_entry-zip : (p : List ℕ) (n : ℕ) (ps js : List (List ℕ)) (i : ℕ) (j : List ℕ) → AreRising ps → slice_get ps i ≡ Some p
-    → slice_get js i ≡ Some j
-    → with_entry p n (zip ps js) ≡ zip ps (set js i (j ++ n ∷ []))
+    → slice_get js i ≡ Some j → with_entry p n (zip ps js) ≡ zip ps (set js i (j ++ n ∷ []))
 with_entry-zip p n [] js i j rising at is = absurd cc
 with_entry-zip p n (q ∷ qs) [] i j rising at is = absurd cc
 with_entry-zip p n (q ∷ qs) (k ∷ ks) zero j rising at is =
@@ -67,6 +63,8 @@ journals_of-set paths states p n i x y true rising at is grows =
     ∙ sym (with_entry-zip p n paths (map journal_kept states) i (journal_kept x) rising at (slice_get-map_some journal_kept states i x is))
 journals_of-set paths states p n i x y false rising at is grows =
     ap (zip paths) (map-set journal_kept states i y) ∙ ap (λ (j : List ℕ). zip paths (set (map journal_kept states) i j)) grows
-    ∙ ap (zip paths) (set-same (map journal_kept states) i (journal_kept x) (slice_get-map_some journal_kept states i x is))
+    ∙ ap (zip paths) (ap (set (map journal_kept states) i)
+    (sym (get_or_from_slice_get (map journal_kept states) i (journal_kept x) (journal_kept x)
+    (slice_get-map_some journal_kept states i x is))) ∙ set-get_or (map journal_kept states) i (journal_kept x))
 
 pub ruleset paths_beside = (firsts-zip, length-map)

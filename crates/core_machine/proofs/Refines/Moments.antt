@@ -2,9 +2,9 @@
 use Rattle.std.proofs.Math.ListN.{get_or-map}
 use Rattle.fs_types.proofs.Common.{◌≡◌, ℕ, ◌+◌, false, List, set, get_or, map, Some, slice_index, refl, sym, ap, ◌∙◌, slice_get, map-set}
 use Rattle.fs_script.specs.Vocabulary.{Answer, Given, put_answer, Job, program, journal_of}
-use Rattle.core_machine.specs.Vocabulary.{PathState, nothing, Client, Moment, fresh_client, client_of, next_line, Event, PathNow, event_of}
-use Rattle.core_machine.specs.Vocabulary.{event_at, with_answer, after_turn, after_event, step, step_at, step_line, path_now, kept_event}
-use Rattle.core_machine.specs.Vocabulary.{Places, client_at, journals_of, moment_of, after_line}
+use Rattle.core_machine.specs.Vocabulary.{PathState, Client, Moment, fresh_client, client_of, next_line, Event, PathNow, event_of, event_at}
+use Rattle.core_machine.specs.Vocabulary.{with_answer, after_turn, after_event, step, step_at, step_line, path_now, kept_event, Places}
+use Rattle.core_machine.specs.Vocabulary.{client_at, journals_of, moment_of, after_line}
 use Rattle.core_machine.proofs.Paths.{journal_of-zip}
 use Rattle.core_machine.proofs.Refines.Journals.{slice_get-map_some, journal_kept, journals_of-set}
 use Rattle.core_machine.proofs.Refines.Now.{kept_now-is}
@@ -14,10 +14,6 @@ use Rattle.core_machine.proofs.Refines.Steps.{Answered, given, is_own, stood, cl
 
 pub client_of-places : (places : List ℕ) (r : ℕ) → get_or (map client_at places) r fresh_client ≡ client_at (slice_index places r)
 client_of-places places r = get_or-map client_at places r 0
-
-after_turn-answered : (place : ℕ) (a : Answer) (e : Event) → e.answer ≡ Some a → e.doing ≡ nothing
-    → after_turn (client_at place) e ≡ client_at (place + 1)
-after_turn-answered place a e answered doing = rw (answered, doing) refl
 
 abbrev going_on : Job → List Client → List (ℕ × Answer) → List (List ℕ × List ℕ) → Moment
 going_on s cs xs js = record { job = s; clients = cs; answers = xs; journals = js; spent = false }
@@ -48,10 +44,8 @@ module _ {s : Job} {paths : List (List ℕ)} {states : List PathState} {answers 
 
   clients-are : map client_at (after_line turns r).places ≡ set (map client_at turns.places) r (after_turn (client_of before r) kept)
   clients-are =
-      map-set client_at turns.places r (slice_index turns.places r + 1)
-      ∙ ap (set (map client_at turns.places) r)
-      (sym (after_turn-answered (slice_index turns.places r) t.answer kept t.follows.answer t.follows.doing)
-      ∙ ap (λ c. after_turn c kept) (sym (client_of-places turns.places r)))
+      map-set client_at turns.places r (slice_index turns.places r + 1) ∙ ap (set (map client_at turns.places) r)
+      (sym (rw (t.follows.answer, t.follows.doing) refl) ∙ ap (λ c. after_turn c kept) (sym (client_of-places turns.places r)))
 
   pub step-is : moment_of s paths (set states t.place t.then)
       (record { lines = answers.lines; list = put_answer t.number t.answer answers.list }) (after_line turns r) false
@@ -59,6 +53,5 @@ module _ {s : Job} {paths : List (List ℕ)} {states : List PathState} {answers 
   step-is =
       same_moment s _ _ _ _ _ _ clients-are (sym (ap (λ a. with_answer t.number a answers.list) t.follows.answer))
       (journals_of-set paths states t.line.path t.number t.place t.was t.then kept.commits t.held.named.rising t.at t.there
-      t.follows.journal)
-      ∙ ap (after_event before r t.number t.line) (sym event-is) ∙ ap (step_line before r t.number) (sym t.is)
+      t.follows.journal) ∙ ap (after_event before r t.number t.line) (sym event-is) ∙ ap (step_line before r t.number) (sym t.is)
       ∙ ap (step_at before r) (sym next-is)

@@ -1,7 +1,7 @@
 -- What the event of a line sees is what is kept for its path and its client.
 use Rattle.fs_types.proofs.Common.{◌≡◌, ℕ, max, leb, refl, sym, ap, ◌∙◌, arith, nat_lt, count_by, cond_both, leb-true, nat_tests}
 use Rattle.fs_script.specs.Vocabulary.{Job, phase, Answering, state, seen, front, of_earlier_phases}
-use Rattle.core_machine.specs.Vocabulary.{OpLine, Noted, OwnedPath, ClientPath, Known, PathNow, known_of, kept_now, known_from, later_of}
+use Rattle.core_machine.specs.Vocabulary.{OpLine, Noted, OwnedPath, ClientPath, PathNow, known_of, kept_now, known_from, later_of}
 use Rattle.core_machine.specs.Vocabulary.{StandsForOwner, StandsForClient, end_of, path_now}
 use Rattle.core_machine.proofs.Refines.Answers.{over_answers-until}
 use Rattle.core_machine.proofs.Refines.Clients.{IsOwn}
@@ -9,10 +9,6 @@ use Rattle.core_machine.proofs.Refines.Clients.{IsOwn}
 later-version : (a b : Noted) → (later_of a b).version ≡ max a.version b.version
 later-version a b = cond_both (leb b.version a.version) a b (λ x. x.version ≡ max a.version b.version)
     (λ le. let lt = leb-true b.version a.version le in omega arith) (λ more. grind (arith, nat_tests))
-
-later-known : (at : ℕ → Known) (a b : Noted) → known_from a ≡ at a.version → known_from b ≡ at b.version
-    → known_from (later_of a b) ≡ at (later_of a b).version
-later-known at a b here there = cond_both (leb b.version a.version) a b (λ x. known_from x ≡ at x.version) (λ _. here) (λ _. there)
 
 -- the front of the line is the greater of what its client noted and the board
 front-kept : {s : Job} {A : Answering} {now n : ℕ} {o : OpLine} {x : OwnedPath} {k : ClientPath} → phase s n ≡ now
@@ -41,4 +37,5 @@ kept_now-is {s} {A} {now} {n} {o} {x} {k} is own owned client =
     same_now (kept_now s x k) (path_now s A J n o) owned.file refl
     (client.pending ∙ over_answers-until _ _ s o.rank o.path A n (end_of s) (omega arith) own.from)
     (client.opened ∙ over_answers-until _ _ s o.rank o.path A n (end_of s) (omega arith) own.from)
-    front (later-known at k.noted x.board client.known owned.known ∙ ap at front)
+    front ((cond_both (leb x.board.version k.noted.version) k.noted x.board (λ x. known_from x ≡ at x.version) (λ _. client.known)
+    (λ _. owned.known)) ∙ ap at front)

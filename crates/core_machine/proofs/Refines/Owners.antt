@@ -40,8 +40,7 @@ length-grown J n false = omega arith
 
 -- its file stays, as the line is answered and perhaps committed
 pub state-grown : {s : Job} {A B : Answering} (J : List ℕ) {n : ℕ} (v : ℕ) {a : Answer} (commits : Bool) → AddsAnswer A n a B
-    → ComesNext s A n → AllByRecursion (λ m. IsSome (A m)) J → v ≤ length J
-    → state s A J v ≡ state s B (grown J n commits) v
+    → ComesNext s A n → AllByRecursion (λ m. IsSome (A m)) J → v ≤ length J → state s A J v ≡ state s B (grown J n commits) v
 state-grown {s} {A} {B} J {n} v {a} true adds next all within = state-answered s A B J n v a adds next all
     ∙ sym (state_in-push s (bytes_of s) B J n v within)
 state-grown {s} {A} {B} J {n} v {a} false adds next all within = state-answered s A B J n v a adds next all
@@ -105,8 +104,7 @@ StandsForOwner-own {s} {A} {B} {now} {n} {o} {a} {x} {y} {k} h pends follows sou
       file = follows.file ∙ ap (λ (q : List ℕ). cond commits (effect_of s (bytes_of s) o.op q (file_of s x.file)) (file_of s x.file)) pends
           ∙ state-now J commits (file_of s x.file) h stands.answered stands.file ∙ ap (λ (j : List ℕ). state s B j (length j)) (sym K);
       board = board ∙ stands.board ∙ sym (ap (count_by (λ m. nat_lt (phase s m) now)) K ∙ told-grown s J n now commits h.phase);
-      known = ap known_from follows.board ∙ stands.known
-          ∙ ap known_of (state-grown J x.board.version commits h.adds h.next stands.answered
+      known = ap known_from follows.board ∙ stands.known ∙ ap known_of (state-grown J x.board.version commits h.adds h.next stands.answered
           (subst (λ v. v ≤ length J) (sym stands.board) (told-within s J now))
           ∙ ap (λ (j : List ℕ). state s B j x.board.version) (sym K) ∙ ap (state s B y.journal.items) (sym board));
     }

@@ -30,12 +30,10 @@ Stands-read {paths} {states} i p x held at read =
 
 -- the file of a path is that of the moment
 pub file-read : {s : Job} {paths : List (List ℕ)} {states : List PathState} {answers : Given} {turns : Places} (i : ℕ) (p : List ℕ)
-    (x : PathState) → Holds s paths states answers turns
-    → slice_get paths i ≡ Some p → x ≡ get_or states i x
+    (x : PathState) → Holds s paths states answers turns → slice_get paths i ≡ Some p → x ≡ get_or states i x
     → file_of s x.owned.file ≡ file_now (moment_of s paths states answers turns false) p
 file-read {s} {paths} {states} {answers} {turns} i p x held at read =
-    (Stands-read i p x held at read).owned.file
-    ∙ ap (λ (j : List ℕ). state s (answer_at answers.list) j (length j))
+    (Stands-read i p x held at read).owned.file ∙ ap (λ (j : List ℕ). state s (answer_at answers.list) j (length j))
     (journal-read paths states i p x held.named.rising at held.kept read)
 
 -- a path that isn't among them has no file

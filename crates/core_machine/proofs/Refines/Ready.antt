@@ -20,8 +20,7 @@ filter-range p q a zero agree = refl
 filter-range p q a (suc len) agree =
     let rest = filter-range p q (a + 1) len (λ n from to. agree n (omega arith) (omega arith)) in
     ap (λ b. cond b (a ∷ filter p (range_with_len (a + 1) len)) (filter p (range_with_len (a + 1) len)))
-    (agree a (omega arith) (omega arith))
-    ∙ ap (λ ns. cond (q a) (a ∷ ns) ns) rest
+    (agree a (omega arith) (omega arith)) ∙ ap (λ ns. cond (q a) (a ∷ ns) ns) rest
 
 module _ {s : Job} {paths : List (List ℕ)} {states : List PathState} {answers : Given} {places : List ℕ} {now : ℕ}
     (held : Holds s paths states answers (record { job = s; places = places; phase = now }))
@@ -104,8 +103,7 @@ module _ {s : Job} {paths : List (List ℕ)} {states : List PathState} {answers 
       (λ r from to. ap (may_come m) (next-is r) ∙ comes-is r (next_in turns r) (omega arith) refl)
 
 pub ready-kept : {s : Job} {paths : List (List ℕ)} {states : List PathState} {answers : Given} {turns : Places}
-    → Holds s paths states answers turns → IsInPhase turns
-    → ready (moment_of s paths states answers turns false) ≡ going turns
+    → Holds s paths states answers turns → IsInPhase turns → ready (moment_of s paths states answers turns false) ≡ going turns
 ready-kept {s} {paths} {states} {answers} {turns} held phases =
     let e : record { job = s; places = turns.places; phase = turns.phase } ≡ turns =
     (λ i. record { job = (sym held.same) i; places = turns.places; phase = turns.phase }) in

@@ -17,9 +17,6 @@ use Rattle.core_machine.proofs.Refines.Journals.{slice_get-set_same, slice_get-s
 
 -- ---- whose line it is
 
-own_op-here : (o : OpLine) → own_op o.rank o.path (Some o) ≡ Some o.op
-own_op-here o = rw (eq-eqb o.rank o.rank refl, (bytes_eq-Decides o.path o.path).1 refl) refl
-
 -- it is no line of another client, nor of another path
 own_op-other : (o : OpLine) (r : ℕ) (p : List ℕ) → (o.rank ≡ r → o.path ≡ p → ⊥) → own_op r p (Some o) ≡ None
 own_op-other o r p other = cond-false (nat_eq o.rank r && bytes_eq o.path p) (Some o.op) None (false_from_ne_true _ (λ both.
@@ -73,7 +70,10 @@ module _ {s : Job} {paths : List (List ℕ)} {states : List PathState} {answers 
 
   pub is_own : IsOwn s given t.line.rank t.line.path t.number t.line
   is_own = record {
-    own = ap (own_op t.line.rank t.line.path) t.is ∙ own_op-here t.line;
+    own = ap (own_op t.line.rank t.line.path) t.is ∙ (rw (
+      eq-eqb t.line.rank t.line.rank refl,
+      (bytes_eq-Decides t.line.path t.line.path).1 refl,
+    ) refl);
     from = IsOpenFrom-next s t.line.rank t.line.path given t.number (comes_next stands_next) (ap rank_in t.is)
         (λ k own. own_op-rank t.line.rank t.line.path (op_at s k) own);
     within = (let inside = op_at-within s t.number t.line t.is in omega (arith, inside.1));
@@ -98,9 +98,6 @@ module _ {s : Job} {paths : List (List ℕ)} {states : List PathState} {answers 
   owner-after : StandsForOwner s given_then turns.phase t.then.owned
   owner-after = StandsForOwner-own is_answer pends t.follows t.sound stood.owned
 
-  client-after : StandsForClient s given_then t.line.rank t.line.path t.then.owned t.own
-  client-after = StandsForClient-own is_answer is_own t.follows t.sound stood.owned owner-after client_stood
-
   clients-after : (q : ℕ) (k : ClientPath) → slice_get t.then.clients.items q ≡ Some k
       → StandsForClient s given_then q t.line.path t.then.owned k
   clients-after q k found = elim (cases_eq q r) [
@@ -108,7 +105,8 @@ module _ {s : Job} {paths : List (List ℕ)} {states : List PathState} {answers 
         let there = sym (slice_get-set_same t.was.clients.items r t.own (slice_get_within t.was.clients.items r t.client t.beside))
         ∙ ap (slice_get (set t.was.clients.items r t.own)) (sym is) ∙ ap (λ ks. slice_get ks q) (sym t.changed) ∙ found in
         subst (λ i. StandsForClient s given_then i t.line.path t.then.owned k) (rank-is
-        ∙ sym is) (subst (StandsForClient s given_then t.line.rank t.line.path t.then.owned) (same_Some t.own k there) client-after)
+        ∙ sym is) (subst (StandsForClient s given_then t.line.rank t.line.path t.then.owned) (same_Some t.own k there)
+        (StandsForClient-own is_answer is_own t.follows t.sound stood.owned owner-after client_stood))
     | inr other ↦
         let kept = sym (slice_get-set_other t.was.clients.items r q t.own other) ∙ ap (λ ks. slice_get ks q) (sym t.changed) ∙ found in
         let none = ap (own_op q t.line.path) t.is ∙ own_op-other t.line q t.line.path (λ e same. other (sym e ∙ rank-is)) in

@@ -7,8 +7,7 @@ use Rattle.fs_script.proofs.CallerLemmas.{put_lines-append}
 use Rattle.fs_script.specs.declared.line.Op.TheVariants as ops
 
 pub sync-event : (s : Job) (x : OwnedPath) (k : ClientPath) (xs : _) → k.is_open ≡ true → x.file ≡ Some xs
-    → has_any (pending_lines k) ≡ true
-    → kept_event s x k ops.Sync ≡ committed_as (length x.journal.items + 1)
+    → has_any (pending_lines k) ≡ true → kept_event s x k ops.Sync ≡ committed_as (length x.journal.items + 1)
 sync-event s x k xs opened file any = rw (opened, file, any) refl
 
 pub sync-file : {A B : Type 0} (s : Job) (xs : Vec Extent A) (ys : Vec Extent B) (ps : List Extent) → ys.items ≡ xs.items ++ ps
@@ -16,6 +15,5 @@ pub sync-file : {A B : Type 0} (s : Job) (xs : Vec Extent A) (ys : Vec Extent B)
 sync-file s xs ys ps is =
     ap (λ (es : List Extent). Some (record { cells = bytes_of_extents s es; frozen = false })) is
     ∙ ap (λ (ns : List ℕ). Some (record { cells = put_lines s (bytes_of s) ns []; frozen = false }))
-    (map-append (λ (e : Extent). e.line) xs.items ps)
-    ∙ ap (λ (cells : List ℕ). Some (record { cells = cells; frozen = false }))
+    (map-append (λ (e : Extent). e.line) xs.items ps) ∙ ap (λ (cells : List ℕ). Some (record { cells = cells; frozen = false }))
     (put_lines-append s (bytes_of s) (lines_of_extents xs.items) (lines_of_extents ps) [])

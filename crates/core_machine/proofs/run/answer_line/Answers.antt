@@ -1,6 +1,6 @@
 use Rattle.fs_types.proofs.Common.{slice_get_read, ◌≡◌, ℕ, zero, suc, ◌<◌, false, List, [], ◌∷◌, length, Some, slice_get, set, is_some}
 use Rattle.fs_types.proofs.Common.{refl, sym, ap, subst, arith}
-use Rattle.fs_script.specs.Vocabulary.{Answer, Given, put_answer}
+use Rattle.fs_script.specs.Vocabulary.{Given, put_answer}
 use Rattle.core_machine.specs.Vocabulary.{PathState, FollowsFor, IsSoundFor, moment_of, after_line, Holds, step}
 use Rattle.fs_script.proofs.CallerLemmas.{op_at-within, program-op}
 use Rattle.core_machine.proofs.Refines.Goes.{Goes, goes-kept}
@@ -69,17 +69,11 @@ answered c =
       sound = follows.sound;
     }
 
-same_given : (lines : ℕ) (list : List (ℕ × Answer)) (g : Given) → g.list ≡ list → g.lines ≡ lines
-    → record { lines = lines; list = list } ≡ g
-same_given lines list g e d = rw (← e, ← d) refl
-
 same_answers : (c : After-set) → record {
   lines = c.args.answers.now.lines;
-  list =
-      put_answer c.next-n.result c.in_ok-answer.answer c.args.answers.now.list;
+  list = put_answer c.next-n.result c.in_ok-answer.answer c.args.answers.now.list;
 } ≡ c.set.new.self
-same_answers c = same_given c.args.answers.now.lines (put_answer c.next-n.result c.in_ok-answer.answer c.args.answers.now.list)
-    c.set.new.self c.set.ensures.list c.set.ensures.lines
+same_answers c = rw (← c.set.ensures.list, ← c.set.ensures.lines) refl
 
 pub returns-clause-holds : goal.returns-clause-holds
 returns-clause-holds c =

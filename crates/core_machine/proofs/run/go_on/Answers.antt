@@ -30,8 +30,7 @@ returns-then-advance-clause-moment c =
     let r = c.args.run.now in
     ap (λ xs. moment_of r.script.now r.paths xs r.answers c.advance.new.self r.spent) (states-are c)
     ∙ moment-told r.script.now r.paths r.states.items r.answers (after_line r.turns c.args.r) c.advance.new.self r.spent
-    c.advance.ensures.places
-    ∙ ap (moment_of r.script.now r.paths r.states.items r.answers (after_line r.turns c.args.r)) c.requires.unspent
+    c.advance.ensures.places ∙ ap (moment_of r.script.now r.paths r.states.items r.answers (after_line r.turns c.args.r)) c.requires.unspent
 
 same_places : (v w : Places) → v.job ≡ w.job → v.places ≡ w.places → v.phase ≡ w.phase → v ≡ w
 same_places v w j p n i = record { job = j i; places = p i; phase = n i }
