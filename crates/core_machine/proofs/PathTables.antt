@@ -1,30 +1,18 @@
 -- The paths of a script's lines: which they are, their order, and their places.
-use Rattle.std.proofs.Common.{◌≡◌, ℕ, zero, suc, ◌+◌, ◌-◌, ◌<◌, ◌≤◌, Bool, true, false, cond, ltb, ltb-false, not, List, [], ◌∷◌, ◌++◌, length, take, get_or, position, Option, Some, None, Contains, Vec, nat_eq, refl, sym, ap, subst, ◌∙◌, arith, true≢false, inl, inr}
-use Rattle.std.specs.Prelude.{fold, if◌then◌else◌, IfSome, IfNone, ◌⊎◌, ◌||◌}
-use Rattle.std.specs.List.{AllByRecursion, slice_get, list_any, prefix_len, position_or_len, IsDistinct}
-use Rattle.std.specs.List.Sorted.{IsSorted, IsStrictlySortedBy, IsPermutation}
-use Rattle.std.specs.Str.{bytes_eq}
-use Rattle.std.specs.Cmp.{IsTotalOrder, unsigned_ties}
-use Rattle.std.specs.Cmp.Lexicographic.{slice_cmp, pointwise, lists_ties}
-use Rattle.std.specs.Ordering.{nat_cmp, is_lt, is_eq, eq_by_cmp, ordering_reverse}
-use Rattle.std.specs.declared.cmp.Ordering.{Ordering}
-use Rattle.std.specs.declared.cmp.Ordering.TheVariants.{Less, Equal, Greater}
-use Rattle.std.proofs.lemmas.Cmp.{nat_list_cmp_total, nat_list_eq_equiv, on_total}
-use Rattle.std.proofs.lemmas.Map.Keys.{sorted_from_all_adjacent, apart_from_distinct, sorted_head, sorted_tail}
-use Rattle.std.proofs.lemmas.List.{map_push, length-map}
-use Rattle.std.proofs.lemmas.List.Elements.{Contains-append_left, Contains-push_cases}
-use Rattle.std.proofs.lemmas.List.Sorted.{IsPermutation-map, IsPermutation-sym, Contains-permutation}
-use Rattle.std.proofs.lemmas.List.Quantifiers.{position-Some}
-use Rattle.std.proofs.lemmas.List.Sums.{fails_before_first}
-use Rattle.std.proofs.lemmas.Option.{slice_get-get_or}
-use Rattle.std.proofs.lemmas.Slice.Eq.{bytes_eq-Decides}
+use Rattle.std.specs.List.Sorted.{IsStrictlySortedBy}
+use Rattle.fs_types.proofs.Common.{◌≡◌, ℕ, zero, suc, ◌+◌, ◌-◌, ◌<◌, ◌≤◌, Bool, true, false, cond, ltb, ltb-false, not, List, [], ◌∷◌, ◌++◌}
+use Rattle.fs_types.proofs.Common.{length, take, get_or, position, Option, Some, None, Contains, Vec, nat_eq, refl, sym, ap, subst, ◌∙◌}
+use Rattle.fs_types.proofs.Common.{arith, true≢false, inl, inr, fold, if◌then◌else◌, IfSome, IfNone, ◌⊎◌, ◌||◌, AllByRecursion, slice_get}
+use Rattle.fs_types.proofs.Common.{list_any, prefix_len, position_or_len, IsDistinct, IsSorted, IsPermutation, bytes_eq, IsTotalOrder}
+use Rattle.fs_types.proofs.Common.{unsigned_ties, slice_cmp, pointwise, lists_ties, nat_cmp, is_lt, is_eq, eq_by_cmp, ordering_reverse}
+use Rattle.fs_types.proofs.Common.{Ordering, Less, Equal, Greater, nat_list_cmp_total, nat_list_eq_equiv, on_total}
+use Rattle.fs_types.proofs.Common.{sorted_from_all_adjacent, apart_from_distinct, sorted_head, sorted_tail, map_push, length-map}
+use Rattle.fs_types.proofs.Common.{Contains-append_left, Contains-push_cases, IsPermutation-map, IsPermutation-sym, Contains-permutation}
+use Rattle.fs_types.proofs.Common.{position-Some, fails_before_first, slice_get-get_or, bytes_eq-Decides}
 use Rattle.indexmap.specs.IndexSet.{insert_key}
+use Rattle.fs_script.specs.Vocabulary.{Job, Names, operation, op_at, AreRising, ArePaths}
+use Rattle.core_machine.specs.Vocabulary.{Line, OpLine, texts, with_path, with_op, with_path_of, paths_of}
 use Rattle.indexmap.proofs.CallerLemmas.{Contains-insert_key}
-use Rattle.fs_script.specs.declared.line.Line.{Line}
-use Rattle.fs_script.specs.declared.line.OpLine.{OpLine}
-use Rattle.fs_script.specs.Job.{Job, Names, operation, op_at}
-use Rattle.fs_script.specs.Report.{AreRising, ArePaths}
-use Rattle.core_machine.specs.PathTable.{texts, with_path, with_op, with_path_of, paths_of}
 
 -- ---- vectors, and their bytes
 module _ {A : Type 0} where
@@ -34,39 +22,52 @@ module _ {A : Type 0} where
   list_any-texts p (v ∷ vs) = ap (λ b. bytes_eq p v.items || b) (list_any-texts p vs)
 
   -- an inserted vector brings its bytes
-  pub texts-insert_key : (vs : List (Vec ℕ A)) (v : Vec ℕ A) → texts (insert_key (λ x y. pointwise nat_eq x.items y.items) vs v) ≡ with_path (texts vs) v.items
+  pub texts-insert_key : (vs : List (Vec ℕ A)) (v : Vec ℕ A)
+      → texts (insert_key (λ x y. pointwise nat_eq x.items y.items) vs v) ≡ with_path (texts vs) v.items
   texts-insert_key vs v = by (list_any (λ x. bytes_eq v.items x.items) vs) refl
     where
-      by : (b : Bool) → list_any (λ x. bytes_eq v.items x.items) vs ≡ b → texts (insert_key (λ x y. pointwise nat_eq x.items y.items) vs v) ≡ with_path (texts vs) v.items
-      by true e = ap (λ b. texts (if b then vs else vs ++ v ∷ [])) e ∙ sym (ap (λ b. if b then texts vs else texts vs ++ v.items ∷ []) (list_any-texts v.items vs ∙ e))
-      by false e = ap (λ b. texts (if b then vs else vs ++ v ∷ [])) e ∙ map_push (λ x. x.items) vs v ∙ sym (ap (λ b. if b then texts vs else texts vs ++ v.items ∷ []) (list_any-texts v.items vs ∙ e))
+      by : (b : Bool) → list_any (λ x. bytes_eq v.items x.items) vs ≡ b
+          → texts (insert_key (λ x y. pointwise nat_eq x.items y.items) vs v) ≡ with_path (texts vs) v.items
+      by true e = ap (λ b. texts (if b then vs else vs ++ v ∷ [])) e
+          ∙ sym (ap (λ b. if b then texts vs else texts vs ++ v.items ∷ []) (list_any-texts v.items vs ∙ e))
+      by false e = ap (λ b. texts (if b then vs else vs ++ v ∷ [])) e ∙ map_push (λ x. x.items) vs v
+          ∙ sym (ap (λ b. if b then texts vs else texts vs ++ v.items ∷ []) (list_any-texts v.items vs ∙ e))
 
   -- bytes that are there bring no path
-  pub with_path-there : (vs : List (Vec ℕ A)) (p : List ℕ) → list_any (λ v. bytes_eq p v.items) vs ≡ true → with_path (texts vs) p ≡ texts vs
+  pub with_path-there : (vs : List (Vec ℕ A)) (p : List ℕ) → list_any (λ v. bytes_eq p v.items) vs ≡ true
+      → with_path (texts vs) p ≡ texts vs
   with_path-there vs p there = ap (λ b. if b then texts vs else texts vs ++ p ∷ []) (list_any-texts p vs ∙ there)
 
   -- as many texts as vectors stand before the bytes
-  prefix_len-texts : (p : List ℕ) (vs : List (Vec ℕ A)) → prefix_len (λ q. not (bytes_eq q p)) (texts vs) ≡ prefix_len (λ v. not (pointwise nat_eq p v.items)) vs
+  prefix_len-texts : (p : List ℕ) (vs : List (Vec ℕ A)) → prefix_len (λ q. not (bytes_eq q p)) (texts vs)
+      ≡ prefix_len (λ v. not (pointwise nat_eq p v.items)) vs
   prefix_len-texts p [] = refl
   prefix_len-texts p (v ∷ vs) =
       ap (λ b. cond (not b) (1 + prefix_len (λ q. not (bytes_eq q p)) (texts vs)) 0) (nat_list_eq_equiv.symm v.items p)
       ∙ ap (λ n. cond (not (pointwise nat_eq p v.items)) (1 + n) 0) (prefix_len-texts p vs)
 
   -- the place of the bytes, by the vectors
-  pub position-texts : (p : List ℕ) (vs : List (Vec ℕ A)) → position (λ v. pointwise nat_eq p v.items) vs ≡ position (λ q. bytes_eq q p) (texts vs)
+  pub position-texts : (p : List ℕ) (vs : List (Vec ℕ A))
+      → position (λ v. pointwise nat_eq p v.items) vs ≡ position (λ q. bytes_eq q p) (texts vs)
   position-texts p vs = sym (
       ap (λ n. cond (ltb n (length (texts vs))) (Some n) None) (prefix_len-texts p vs)
-      ∙ ap (λ m. cond (ltb (prefix_len (λ v. not (pointwise nat_eq p v.items)) vs) m) (Some (prefix_len (λ v. not (pointwise nat_eq p v.items)) vs)) None) (length-map vs (λ v. v.items)))
+      ∙ ap (λ m. cond (ltb (prefix_len (λ v. not (pointwise nat_eq p v.items)) vs) m)
+      (Some (prefix_len (λ v. not (pointwise nat_eq p v.items)) vs)) None) (length-map vs (λ v. v.items)))
 
   -- what is below each vector's bytes is below each text
-  above_texts : (p : List ℕ) (vs : List (Vec ℕ A)) → AllByRecursion (λ v. slice_cmp nat_cmp p v.items ≡ Less) vs → AllByRecursion (λ q. is_lt (slice_cmp nat_cmp p q) ≡ true) (texts vs)
+  above_texts : (p : List ℕ) (vs : List (Vec ℕ A)) → AllByRecursion (λ v. slice_cmp nat_cmp p v.items ≡ Less) vs
+      → AllByRecursion (λ q. is_lt (slice_cmp nat_cmp p q) ≡ true) (texts vs)
   above_texts p [] all = tt
   above_texts p (v ∷ vs) all = (ap is_lt all.0, above_texts p vs all.1)
 
   -- vectors that rise have rising texts
-  AreRising-from_IsStrictlySortedBy : (vs : List (Vec ℕ A)) → IsStrictlySortedBy (λ x y. slice_cmp nat_cmp x.items y.items) vs → AreRising (texts vs)
+  AreRising-from_IsStrictlySortedBy : (vs : List (Vec ℕ A)) → IsStrictlySortedBy (λ x y. slice_cmp nat_cmp x.items y.items) vs
+      → AreRising (texts vs)
   AreRising-from_IsStrictlySortedBy [] sorted = tt
-  AreRising-from_IsStrictlySortedBy (v ∷ vs) sorted = (above_texts v.items vs (sorted_head _ v vs sorted), AreRising-from_IsStrictlySortedBy vs (sorted_tail _ v vs sorted))
+  AreRising-from_IsStrictlySortedBy (v ∷ vs) sorted = (
+    above_texts v.items vs (sorted_head _ v vs sorted),
+    AreRising-from_IsStrictlySortedBy vs (sorted_tail _ v vs sorted),
+  )
 
 -- ---- a sorted list without equal elements
 -- an ordering is `Less` where it is neither of the others
@@ -75,15 +76,12 @@ Less-from_others Less unequal ungreater = refl
 Less-from_others Equal unequal ungreater = absurd (unequal refl)
 Less-from_others Greater unequal ungreater = absurd (ungreater refl)
 
--- `Greater` reversed is `Less`
-is_lt-from_Greater : (o : Ordering) → o ≡ Greater → is_lt (ordering_reverse o) ≡ true
-is_lt-from_Greater o e = ap (λ x. is_lt (ordering_reverse x)) e
-
 module _ {K : Type 0} {R : K → K → Ordering} (order : IsTotalOrder R) {E : K → K → Bool} (ties : (x y : K) → E x y ≡ eq_by_cmp R x y) where
   -- an element is below the next where the next is not below it, nor equal to it
   Less-from_neighbours : (x y : K) → is_lt (R y x) ≡ false → E x y ≡ false → R x y ≡ Less
   Less-from_neighbours x y not_after apart =
-      Less-from_others (R x y) (λ e. true≢false (sym (ties x y ∙ ap is_eq e) ∙ apart)) (λ e. true≢false (sym (ap is_lt (order.antisymm y x) ∙ is_lt-from_Greater (R x y) e) ∙ not_after))
+      Less-from_others (R x y) (λ e. true≢false (sym (ties x y ∙ ap is_eq e) ∙ apart))
+      (λ e. true≢false (sym (ap is_lt (order.antisymm y x) ∙ (ap (λ x. is_lt (ordering_reverse x)) e)) ∙ not_after))
 
   -- so a sorted list of distinct elements rises
   IsStrictlySortedBy-from_distinct : (ks : List K) → IsSorted R ks → IsDistinct E ks → IsStrictlySortedBy R ks
@@ -91,12 +89,15 @@ module _ {K : Type 0} {R : K → K → Ordering} (order : IsTotalOrder R) {E : K
   IsStrictlySortedBy-from_distinct [] sorted distinct = tt
   IsStrictlySortedBy-from_distinct (x ∷ xs) sorted distinct =
       sorted_from_all_adjacent order (x ∷ xs) x (λ k within.
-      Less-from_neighbours (get_or (x ∷ xs) k x) (get_or (x ∷ xs) (k + 1) x) (sorted k x (omega arith) within) (apart_from_distinct E (x ∷ xs) k (k + 1) x distinct (omega arith) within))
+      Less-from_neighbours (get_or (x ∷ xs) k x) (get_or (x ∷ xs) (k + 1) x) (sorted k x (omega arith) within)
+      (apart_from_distinct E (x ∷ xs) k (k + 1) x distinct (omega arith) within))
 
 -- sorted vectors, no two of which are equal, have rising bytes
-pub AreRising-from_sort : {A : Type 0} (vs : List (Vec ℕ A)) → IsSorted (λ x y. slice_cmp nat_cmp x.items y.items) vs → IsDistinct (λ x y. pointwise nat_eq x.items y.items) vs → AreRising (texts vs)
+pub AreRising-from_sort : {A : Type 0} (vs : List (Vec ℕ A)) → IsSorted (λ x y. slice_cmp nat_cmp x.items y.items) vs
+    → IsDistinct (λ x y. pointwise nat_eq x.items y.items) vs → AreRising (texts vs)
 AreRising-from_sort {A} vs sorted distinct =
-    AreRising-from_IsStrictlySortedBy vs (IsStrictlySortedBy-from_distinct (on_total (λ (v : Vec ℕ A). v.items) nat_list_cmp_total) (λ x y. lists_ties nat_cmp unsigned_ties x.items y.items) vs sorted distinct)
+    AreRising-from_IsStrictlySortedBy vs (IsStrictlySortedBy-from_distinct (on_total (λ (v : Vec ℕ A). v.items) nat_list_cmp_total)
+    (λ x y. lists_ties nat_cmp unsigned_ties x.items y.items) vs sorted distinct)
 
 -- ---- places
 -- the path stands at its place
@@ -113,27 +114,32 @@ slice_get-position ps p = by (position (λ q. bytes_eq q p) ps) refl
 pub absent-from_position : (ps : List (List ℕ)) (p : List ℕ) → IfNone (position (λ q. bytes_eq q p) ps) (Contains ps p → ⊥)
 absent-from_position ps p = by (ltb (position_or_len (λ q. bytes_eq q p) ps) (length ps)) refl
   where
-    by : (b : Bool) → ltb (position_or_len (λ q. bytes_eq q p) ps) (length ps) ≡ b → IfNone (cond b (Some (position_or_len (λ q. bytes_eq q p) ps)) None) (Contains ps p → ⊥)
+    by : (b : Bool) → ltb (position_or_len (λ q. bytes_eq q p) ps) (length ps) ≡ b
+        → IfNone (cond b (Some (position_or_len (λ q. bytes_eq q p) ps)) None) (Contains ps p → ⊥)
     by true e = tt
     by false e = λ there.
         let past : length ps ≤ position_or_len (λ q. bytes_eq q p) ps = ltb-false _ _ e in
-        true≢false (sym ((bytes_eq-Decides (get_or ps there.0 p) p).1 there.2) ∙ fails_before_first (λ q. bytes_eq q p) ps there.0 p (omega (arith, past, there.1)))
+        true≢false (sym ((bytes_eq-Decides (get_or ps there.0 p) p).1 there.2)
+        ∙ fails_before_first (λ q. bytes_eq q p) ps there.0 p (omega (arith, past, there.1)))
 
 -- ---- the paths of lines
 -- one line more brings its path
-fold-with_path_of-more : (acc : List (List ℕ)) (ls : List Line) (k : ℕ) → k < length ls → fold with_path_of acc (take (suc k) ls) ≡ with_op (fold with_path_of acc (take k ls)) (operation (slice_get ls k))
+fold-with_path_of-more : (acc : List (List ℕ)) (ls : List Line) (k : ℕ) → k < length ls
+    → fold with_path_of acc (take (suc k) ls) ≡ with_op (fold with_path_of acc (take k ls)) (operation (slice_get ls k))
 fold-with_path_of-more acc [] k within = absurd (omega arith)
 fold-with_path_of-more acc (l ∷ ls) zero within = refl
 fold-with_path_of-more acc (l ∷ ls) (suc k) within = fold-with_path_of-more (with_path_of acc l) ls k (omega arith)
 
 -- the paths of the lines before n and of line n
-pub paths_of-more : (s : Job) (n : ℕ) → 2 ≤ n → n < length s.lines + 2 → paths_of (take (n + 1 - 2) s.lines) ≡ with_op (paths_of (take (n - 2) s.lines)) (op_at s n)
+pub paths_of-more : (s : Job) (n : ℕ) → 2 ≤ n → n < length s.lines + 2
+    → paths_of (take (n + 1 - 2) s.lines) ≡ with_op (paths_of (take (n - 2) s.lines)) (op_at s n)
 paths_of-more s zero past within = absurd (omega arith)
 paths_of-more s (suc zero) past within = absurd (omega arith)
 paths_of-more s (suc (suc k)) past within =
     let next : suc (suc k) + 1 - 2 ≡ suc k = omega arith in
     let here : suc (suc k) - 2 ≡ k = omega arith in
-    ap (λ i. paths_of (take i s.lines)) next ∙ fold-with_path_of-more [] s.lines k (omega arith) ∙ sym (ap (λ i. with_op (paths_of (take i s.lines)) (operation (slice_get s.lines k))) here)
+    ap (λ i. paths_of (take i s.lines)) next ∙ fold-with_path_of-more [] s.lines k (omega arith)
+    ∙ sym (ap (λ i. with_op (paths_of (take i s.lines)) (operation (slice_get s.lines k))) here)
 
 -- the test for equal bytes tells paths apart
 same_from_bytes : (p q : List ℕ) → bytes_eq p q ≡ true → p ≡ q
@@ -166,10 +172,12 @@ Contains-fold acc [] q there = there
 Contains-fold acc (l ∷ ls) q there = Contains-fold (with_path_of acc l) ls q (Contains-with_op acc (operation (Some l)) q there)
 
 -- the path of each line that is an operation is there
-Contains-fold-from_line : (acc : List (List ℕ)) (ls : List Line) (k : ℕ) (o : OpLine) → operation (slice_get ls k) ≡ Some o → Contains (fold with_path_of acc ls) o.path
+Contains-fold-from_line : (acc : List (List ℕ)) (ls : List Line) (k : ℕ) (o : OpLine) → operation (slice_get ls k) ≡ Some o
+    → Contains (fold with_path_of acc ls) o.path
 Contains-fold-from_line acc [] k o is = absurd cc
 Contains-fold-from_line acc (l ∷ ls) zero o is =
-    Contains-fold (with_path_of acc l) ls o.path (subst (λ x. Contains (with_op acc x) o.path) (sym is) (Contains-insert_key bytes_eq same_from_bytes acc o.path))
+    Contains-fold (with_path_of acc l) ls o.path (subst (λ x. Contains (with_op acc x) o.path) (sym is)
+    (Contains-insert_key bytes_eq same_from_bytes acc o.path))
 Contains-fold-from_line acc (l ∷ ls) (suc k) o is = Contains-fold-from_line (with_path_of acc l) ls k o is
 
 -- some of these lines is an operation on this path
@@ -180,23 +188,29 @@ record IsNamedIn (ls : List Line) (p : List ℕ) : Type 0 where
   on : op.path ≡ p
 
 -- a line before them changes nothing of that
-IsNamedIn-later : (l : Line) (ls : List Line) (p : List ℕ) → IsNamedIn ls p → IsNamedIn (l ∷ ls) p
-IsNamedIn-later l ls p named = record { place = suc named.place; op = named.op; is = named.is; on = named.on }
+IsNamedIn-later : (l : Line) {ls : List Line} {p : List ℕ} → IsNamedIn ls p → IsNamedIn (l ∷ ls) p
+IsNamedIn-later l named = record { place = suc named.place; op = named.op; is = named.is; on = named.on }
 
 -- a path was there before an operation, or is its path
-Contains-with_op-cases : (ps : List (List ℕ)) (o : Option OpLine) (q : List ℕ) → Contains (with_op ps o) q → Contains ps q ⊎ ((x : OpLine) × (o ≡ Some x) × (x.path ≡ q))
+Contains-with_op-cases : (ps : List (List ℕ)) (o : Option OpLine) (q : List ℕ) → Contains (with_op ps o) q
+    → Contains ps q ⊎ ((x : OpLine) × (o ≡ Some x) × (x.path ≡ q))
 Contains-with_op-cases ps None q there = inl there
-Contains-with_op-cases ps (Some o) q there = elim (Contains-with_path-cases ps o.path q there) [ inl before ↦ inl before | inr same ↦ inr (o, refl, same) ]
+Contains-with_op-cases ps (Some o) q there = elim (Contains-with_path-cases ps o.path q there) [
+  | inl before ↦ inl before
+  | inr same ↦
+      inr (o, refl, same)
+]
 
 -- a path was there before these lines, or one of them names it
-Contains-fold-cases : (acc : List (List ℕ)) (ls : List Line) (q : List ℕ) → Contains (fold with_path_of acc ls) q → Contains acc q ⊎ IsNamedIn ls q
+Contains-fold-cases : (acc : List (List ℕ)) (ls : List Line) (q : List ℕ) → Contains (fold with_path_of acc ls) q
+    → Contains acc q ⊎ IsNamedIn ls q
 Contains-fold-cases acc [] q there = inl there
 Contains-fold-cases acc (l ∷ ls) q there = elim (Contains-fold-cases (with_path_of acc l) ls q there) [
   | inl before ↦ elim (Contains-with_op-cases acc (operation (Some l)) q before) [
     | inl earlier ↦ inl earlier
     | inr here ↦ inr (record { place = 0; op = here.0; is = here.1; on = here.2 })
   ]
-  | inr named ↦ inr (IsNamedIn-later l ls q named)
+  | inr named ↦ inr (IsNamedIn-later l named)
 ]
 
 -- each path of a job's lines is one that it names
@@ -213,11 +227,21 @@ Contains-from_op_at s (suc zero) o is = absurd cc
 Contains-from_op_at s (suc (suc k)) o is = Contains-fold-from_line [] s.lines k o is
 
 -- the paths of a job's lines in byte order are those that it names
-pub ArePaths-from_sort : {A : Type 0} (s : Job) (vs ws : List (Vec ℕ A)) → texts vs ≡ paths_of s.lines → IsPermutation vs ws → AreRising (texts ws) → ArePaths s (texts ws)
+pub ArePaths-from_sort : {A : Type 0} (s : Job) (vs ws : List (Vec ℕ A)) → texts vs ≡ paths_of s.lines → IsPermutation vs ws
+    → AreRising (texts ws) → ArePaths s (texts ws)
 ArePaths-from_sort s vs ws are moved rising =
     let texts_moved = IsPermutation-map (λ v. v.items) vs ws moved in
     record {
       rising = rising;
-      named = λ p there. Names-from_Contains s p (subst (λ l. Contains l p) are (Contains-permutation (texts ws) (texts vs) p (IsPermutation-sym (texts vs) (texts ws) texts_moved) there));
-      each = λ p named. Contains-permutation (texts vs) (texts ws) p texts_moved (subst (λ l. Contains l p) (sym are) (subst (Contains (paths_of s.lines)) named.on (Contains-from_op_at s named.line named.op named.is)));
+      named = λ p there. Names-from_Contains s p (subst (λ l. Contains l p) are
+          (Contains-permutation (texts ws) (texts vs) p (IsPermutation-sym (texts vs) (texts ws) texts_moved) there));
+      each = λ p named. Contains-permutation (texts vs) (texts ws) p texts_moved
+          (subst (λ l. Contains l p) (sym are) (subst (Contains (paths_of s.lines)) named.on
+          (Contains-from_op_at s named.line named.op named.is)));
     }
+
+pub ruleset added_paths = (with_path-there)
+
+pub ruleset named_paths = (paths_of-more)
+
+pub ruleset sorted_paths = (AreRising-from_sort, ArePaths-from_sort)

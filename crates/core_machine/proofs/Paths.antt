@@ -1,25 +1,16 @@
 -- Paths in byte order, their places, and what stands beside each.
-use Rattle.std.proofs.Common.{◌≡◌, ℕ, zero, suc, true, false, List, [], ◌∷◌, Some, refl, sym, ap, subst, ◌∙◌, arith, true≢false}
-use Rattle.std.specs.Prelude.{zip}
-use Rattle.std.specs.List.{AllByRecursion, Contains, slice_get}
-use Rattle.std.specs.Str.{bytes_eq}
-use Rattle.std.specs.Ordering.{nat_cmp, is_lt}
-use Rattle.std.specs.Cmp.Lexicographic.{slice_cmp}
-use Rattle.std.proofs.lemmas.Cmp.{tied_itself, nat_list_cmp_total}
-use Rattle.std.proofs.lemmas.Bool.{false_from_ne_true, cond-true, cond-false}
-use Rattle.std.proofs.lemmas.List.Elements.{Contains-append_right}
-use Rattle.std.proofs.lemmas.Option.{same_Some}
-use Rattle.std.proofs.lemmas.Slice.Eq.{bytes_eq-Decides}
-use Rattle.fs_script.specs.Report.{AreRising, journal_of}
-
--- a path is not below itself
-not_below_itself : (p : List ℕ) → is_lt (slice_cmp nat_cmp p p) ≡ true → ⊥
-not_below_itself p below = true≢false (sym below ∙ ap is_lt (tied_itself nat_list_cmp_total p))
+use Rattle.fs_types.proofs.Common.{◌≡◌, ℕ, zero, suc, true, false, List, [], ◌∷◌, Some, refl, sym, ap, subst, ◌∙◌, arith, true≢false, zip}
+use Rattle.fs_types.proofs.Common.{AllByRecursion, Contains, slice_get, bytes_eq, nat_cmp, is_lt, slice_cmp, tied_itself}
+use Rattle.fs_types.proofs.Common.{nat_list_cmp_total, false_from_ne_true, cond-true, cond-false, Contains-append_right, same_Some}
+use Rattle.fs_types.proofs.Common.{bytes_eq-Decides}
+use Rattle.fs_script.specs.Vocabulary.{AreRising, journal_of}
 
 -- a path that is below each of a list is not among them
-pub not_among : (p : List ℕ) (ps : List (List ℕ)) (k : ℕ) → AllByRecursion (λ q. is_lt (slice_cmp nat_cmp p q) ≡ true) ps → slice_get ps k ≡ Some p → ⊥
+pub not_among : (p : List ℕ) (ps : List (List ℕ)) (k : ℕ) → AllByRecursion (λ q. is_lt (slice_cmp nat_cmp p q) ≡ true) ps
+    → slice_get ps k ≡ Some p → ⊥
 not_among p [] k below at = absurd cc
-not_among p (q ∷ qs) zero below at = not_below_itself p (subst (λ r. is_lt (slice_cmp nat_cmp p r) ≡ true) (same_Some q p at) below.0)
+not_among p (q ∷ qs) zero below at = true≢false (sym (subst (λ r. is_lt (slice_cmp nat_cmp p r) ≡ true) (same_Some q p at) below.0)
+    ∙ ap is_lt (tied_itself nat_list_cmp_total p))
 not_among p (q ∷ qs) (suc k) below at = not_among p qs k below.1 at
 
 -- a path stands at one place
@@ -39,24 +30,26 @@ pub other_bytes : (p q : List ℕ) → (p ≡ q → ⊥) → bytes_eq p q ≡ fa
 other_bytes p q differ = false_from_ne_true (bytes_eq p q) (λ e. differ ((bytes_eq-Decides p q).0 e))
 
 -- where the first path is another, the journal is among the rest
-pub journal_of-later : (j : List ℕ × List ℕ) (js : List (List ℕ × List ℕ)) (p : List ℕ) → bytes_eq j.0 p ≡ false → journal_of (j ∷ js) p ≡ journal_of js p
+pub journal_of-later : (j : List ℕ × List ℕ) (js : List (List ℕ × List ℕ)) (p : List ℕ) → bytes_eq j.0 p ≡ false
+    → journal_of (j ∷ js) p ≡ journal_of js p
 journal_of-later j js p e = cond-false (bytes_eq j.0 p) j.1 (journal_of js p) e
 
--- at the first path its own journal is found
-pub journal_of-first : (j : List ℕ × List ℕ) (js : List (List ℕ × List ℕ)) (p : List ℕ) → bytes_eq j.0 p ≡ true → journal_of (j ∷ js) p ≡ j.1
-journal_of-first j js p e = cond-true (bytes_eq j.0 p) j.1 (journal_of js p) e
-
 -- the journal of the path at a place is the one at that place
-pub journal_of-zip : (ps js : List (List ℕ)) (i : ℕ) (p j : List ℕ) → AreRising ps → slice_get ps i ≡ Some p → slice_get js i ≡ Some j → journal_of (zip ps js) p ≡ j
+pub journal_of-zip : (ps js : List (List ℕ)) (i : ℕ) (p j : List ℕ) → AreRising ps → slice_get ps i ≡ Some p → slice_get js i ≡ Some j
+    → journal_of (zip ps js) p ≡ j
 journal_of-zip [] js i p j rising at beside = absurd cc
 journal_of-zip (q ∷ qs) [] i p j rising at beside = absurd cc
-journal_of-zip (q ∷ qs) (k ∷ ks) zero p j rising at beside = journal_of-first (q, k) (zip qs ks) p (same_bytes q p (same_Some q p at)) ∙ same_Some k j beside
+journal_of-zip (q ∷ qs) (k ∷ ks) zero p j rising at beside =
+    cond-true (bytes_eq q p) k (journal_of (zip qs ks) p) (same_bytes q p (same_Some q p at))
+    ∙ same_Some k j beside
 journal_of-zip (q ∷ qs) (k ∷ ks) (suc i) p j rising at beside =
-    journal_of-later (q, k) (zip qs ks) p (other_bytes q p (λ e. not_among q qs i rising.0 (at ∙ ap Some (sym e)))) ∙ journal_of-zip qs ks i p j rising.1 at beside
+    journal_of-later (q, k) (zip qs ks) p (other_bytes q p (λ e. not_among q qs i rising.0 (at ∙ ap Some (sym e))))
+    ∙ journal_of-zip qs ks i p j rising.1 at beside
 
 -- a path that is not among them has no journal
 pub journal_of-absent : (ps js : List (List ℕ)) (p : List ℕ) → (Contains ps p → ⊥) → journal_of (zip ps js) p ≡ []
 journal_of-absent [] js p absent = refl
 journal_of-absent (q ∷ qs) [] p absent = refl
 journal_of-absent (q ∷ qs) (k ∷ ks) p absent =
-    journal_of-later (q, k) (zip qs ks) p (other_bytes q p (λ e. absent (0, omega arith, e))) ∙ journal_of-absent qs ks p (λ there. absent (Contains-append_right (q ∷ []) qs p there))
+    journal_of-later (q, k) (zip qs ks) p (other_bytes q p (λ e. absent (0, omega arith, e)))
+    ∙ journal_of-absent qs ks p (λ there. absent (Contains-append_right (q ∷ []) qs p there))

@@ -1,15 +1,9 @@
 -- Clients whose lines were answered up to a place of their programs: the line that comes next, and what an answer changes.
-use Rattle.std.proofs.Common.{◌≡◌, ◌≢◌, ℕ, ◌+◌, ◌<◌, length, Option, Some, None, IsSome, is_some, slice_get, sym, ap, ◌∙◌, subst, refl, inl, inr, arith}
-use Rattle.std.proofs.lemmas.Bool.{cases_eq, ltb-true, lt-ltb, le-ltb}
-use Rattle.std.proofs.lemmas.Bool.Decides.{nat_tests}
-use Rattle.std.proofs.lemmas.Option.{same_Some, none-some}
-use Rattle.fs_types.specs.declared.answer.Answer.{Answer}
-use Rattle.fs_script.specs.declared.line.OpLine.{OpLine}
-use Rattle.fs_script.specs.Job.{Job, op_at, rank_in, rank_at, is_of_rank, program}
-use Rattle.fs_script.specs.Pending.{Answering}
-use Rattle.fs_script.specs.Growth.{AddsAnswer, ComesNext}
+use Rattle.fs_types.proofs.Common.{◌≡◌, ◌≢◌, ℕ, ◌+◌, ◌<◌, length, Option, Some, None, IsSome, is_some, slice_get, sym, ap, ◌∙◌, subst, refl}
+use Rattle.fs_types.proofs.Common.{inl, inr, arith, cases_eq, ltb-true, lt-ltb, le-ltb, nat_tests, same_Some, none-some}
+use Rattle.fs_script.specs.Vocabulary.{Answer, Job, op_at, rank_in, rank_at, is_of_rank, program, Answering, AddsAnswer, ComesNext}
+use Rattle.core_machine.specs.Vocabulary.{OpLine, IsAnsweredUpTo}
 use Rattle.fs_script.proofs.CallerLemmas.{none_from-is_some, passing-rise, passing-places, program-place, program-op}
-use Rattle.core_machine.specs.LegalSoFar.{IsAnsweredUpTo}
 
 -- client r's lines were answered up to the place, where line n stands
 pub record StandsNext (s : Job) (A : Answering) (r place n : ℕ) : Type 0 where
@@ -53,13 +47,15 @@ module _ {s : Job} {A : Answering} {r place n : ℕ} (t : StandsNext s A r place
         let same = same_Some j n (sym at ∙ ap (slice_get (program s r)) is ∙ t.here) in
         ap (λ i. is_some (B i)) same ∙ ap is_some adds.added ∙ sym (lt-ltb k (place + 1) (omega arith))
     | inr other ↦
-        let another : j ≢ n = λ e. other (passing-places (λ i. is_of_rank r (op_at s i)) 2 (length s.lines) k place j at (t.here ∙ ap Some (sym e))) in
+        let another : j ≢ n = λ e. other (passing-places (λ i. is_of_rank r (op_at s i)) 2 (length s.lines) k place j at (t.here
+        ∙ ap Some (sym e))) in
         ap is_some (adds.others j another) ∙ t.upto k j at ∙ grind (arith, nat_tests)
   ]
 
 -- another client's place stays
-pub upto-other : (s : Job) (A B : Answering) (q n place : ℕ) (o : OpLine) (a : Answer) → AddsAnswer A n a B → op_at s n ≡ Some o → o.rank ≢ q → IsAnsweredUpTo s A q place → IsAnsweredUpTo s B q place
-upto-other s A B q n place o a adds is other upto k j at =
+pub upto-other : (s : Job) {A B : Answering} (q : ℕ) {n : ℕ} (place : ℕ) (o : OpLine) {a : Answer} → AddsAnswer A n a B → op_at s n ≡ Some o
+    → o.rank ≢ q → IsAnsweredUpTo s A q place → IsAnsweredUpTo s B q place
+upto-other s q {n} place o adds is other upto k j at =
     let op = program-op s q k j at in
     let another : j ≢ n = λ e. other (ap (λ l. l.rank) (same_Some o op.0 (sym is ∙ ap (op_at s) (sym e) ∙ op.1)) ∙ op.2) in
     ap is_some (adds.others j another) ∙ upto k j at

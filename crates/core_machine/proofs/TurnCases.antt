@@ -1,6 +1,6 @@
 -- Whose turn it may be in a job of two clients with a barrier between their lines, worked out by hand.
-use Rattle.std.proofs.Common.{◌≡◌, [], ◌∷◌, Some, None, refl}
-use Rattle.core_machine.specs.Turns.{Places, next_in, going}
+use Rattle.fs_types.proofs.Common.{◌≡◌, [], ◌∷◌, Some, None, refl}
+use Rattle.core_machine.specs.Vocabulary.{Places, next_in, going}
 use Rattle.core_machine.proofs.TwoClients.{two_clients}
 
 -- client 1 has a line, which is of a later phase

@@ -1,15 +1,11 @@
 -- Moments of two clients with a barrier between their lines, worked out by hand.
-use Rattle.std.proofs.Common.{◌≡◌, ℕ, [], ◌∷◌, refl, false}
-use Rattle.std.specs.Prelude.{codes}
+use Rattle.fs_types.proofs.Common.{◌≡◌, ℕ, [], ◌∷◌, refl, false, codes}
+use Rattle.fs_script.specs.Vocabulary.{Job}
+use Rattle.core_machine.specs.Vocabulary.{Text, nothing, Client, Moment, fresh_client, ready, Turn, step}
+use Rattle.fs_script.proofs.CallerLemmas.{path_a, on_a}
 use Rattle.fs_types.specs.declared.answer.Answer.TheVariants as answers
 use Rattle.fs_script.specs.declared.line.Line.TheVariants as lines
 use Rattle.fs_script.specs.declared.line.Op.TheVariants as ops
-use Rattle.fs_script.specs.declared.line.Data.TheVariants.{Text}
-use Rattle.fs_script.specs.Job.{Job}
-use Rattle.fs_script.proofs.CallerLemmas.{path_a, on_a}
-use Rattle.core_machine.specs.Doing.{nothing}
-use Rattle.core_machine.specs.Moment.{Client, Moment, fresh_client, ready}
-use Rattle.core_machine.specs.Step.{Turn, step}
 
 -- client 0 makes a file; after the barrier it writes line 4 and commits it, and client 1 tries to
 -- make the file again

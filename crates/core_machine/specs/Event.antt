@@ -1,9 +1,8 @@
 -- Events of a simulated run: what happens at once, and what it sees of its path.
 use Rattle.std.specs.Prelude.{ℕ, Bool, true, false, List, Option, Some, None, if◌then◌else◌}
-use Rattle.fs_types.specs.declared.answer.Answer.{Answer}
-use Rattle.fs_types.specs.declared.answer.Answer.TheVariants as answers
-use Rattle.fs_types.specs.PlainFile.{File}
+use Rattle.fs_script.specs.Vocabulary.{Answer, File}
 use Rattle.core_machine.specs.Doing.{Doing, nothing}
+use Rattle.fs_types.specs.declared.answer.Answer.TheVariants as answers
 
 -- an answer to the line, if it has come to its end; whether the owner commits the line; and what its client does from then on
 pub record Event : Type 0 where

@@ -1,10 +1,7 @@
 -- Extents: the ranges that accepted writes cover, and the bytes that they make, one put over the other.
 use Rattle.std.specs.Prelude.{◌≡◌, ℕ, ◌+◌, ◌-◌, ◌<◌, ◌≤◌, ◌&&◌, nat_le, nat_lt, List, [], length, map, slice_index, IsSome, if◌then◌else◌}
 use Rattle.std.specs.List.{AllByRecursion}
-use Rattle.fs_types.specs.declared.limits.TheConstants.{LONGEST_FILE}
-use Rattle.fs_script.specs.Job.{Job}
-use Rattle.fs_script.specs.Payload.{write_at, payload, offset, bytes_of}
-use Rattle.fs_script.specs.Effect.{put_lines}
+use Rattle.fs_script.specs.Vocabulary.{LONGEST_FILE, Job, write_at, payload, offset, bytes_of, put_lines}
 use Rattle.core_machine.specs.declared.extent.Extent.{Extent}
 
 -- the range of a write of the job that brings bytes and ends within the longest file

@@ -1,14 +1,7 @@
 -- When an answer to a client's line, and what is kept after it, are those of the machine's event.
-use Rattle.std.specs.Prelude.{◌≡◌, ℕ, ◌≤◌, ◌||◌, ◌∷◌, [], ◌++◌, length, Some, slice_set, if◌then◌else◌}
-use Rattle.std.specs.List.{slice_get}
-use Rattle.fs_types.specs.declared.answer.Answer.{Answer}
+use Rattle.std.specs.Prelude.{◌≡◌, ℕ, ◌≤◌, ◌||◌, ◌∷◌, [], ◌++◌, length, Some, slice_set, if◌then◌else◌, slice_get}
+use Rattle.fs_script.specs.Vocabulary.{Answer, Job, bytes_of, version_of, after_answer, effect_of, at_least, opens}
 use Rattle.fs_script.specs.declared.line.Op.{Op}
-use Rattle.fs_script.specs.Job.{Job}
-use Rattle.fs_script.specs.Payload.{bytes_of}
-use Rattle.fs_script.specs.AnswerKinds.{version_of}
-use Rattle.fs_script.specs.Pending.{after_answer}
-use Rattle.fs_script.specs.Effect.{effect_of}
-use Rattle.fs_script.specs.Front.{at_least, opens}
 use Rattle.core_machine.specs.declared.path_state.OwnedPath.{OwnedPath}
 use Rattle.core_machine.specs.declared.path_state.ClientPath.{ClientPath}
 use Rattle.core_machine.specs.declared.path_state.PathState.{PathState}
@@ -41,7 +34,8 @@ pub record Follows (s : Job) (n : ℕ) (op : Op) (x : OwnedPath) (k : ClientPath
   pub opened : l.is_open ≡ (opens op a || k.is_open)
   pub pending : pending_lines l ≡ after_answer op a n (pending_lines k)
   pub version : l.noted.version ≡ at_least k.noted.version (version_of a)
-  pub within : k.noted.version ≤ length x.journal.items → x.board.version ≤ length x.journal.items → l.noted.version ≤ length y.journal.items
+  pub within : k.noted.version ≤ length x.journal.items → x.board.version ≤ length x.journal.items
+      → l.noted.version ≤ length y.journal.items
   -- whatever the versions' files are, what was noted goes on saying it
   pub known : (at : ℕ → Known) → Knows s at y k → known_from l.noted ≡ at l.noted.version
 

@@ -1,12 +1,7 @@
 -- What holds at every moment of a simulated run, and which moments a run reaches.
-use Rattle.std.specs.Prelude.{◌≡◌, ℕ, ◌<◌, List, [], ◌∷◌, length, map, Some, IsSome, is_some, nat_lt}
-use Rattle.std.specs.List.{slice_get, Contains}
-use Rattle.fs_types.specs.AnswerList.{IsRising}
+use Rattle.std.specs.Prelude.{◌≡◌, ℕ, ◌<◌, List, [], ◌∷◌, length, map, Some, IsSome, is_some, nat_lt, slice_get, Contains}
+use Rattle.fs_script.specs.Vocabulary.{IsRising, Job, op_at, phase, program, Answering, IsLegalSoFar, ArePaths}
 use Rattle.fs_script.specs.declared.line.OpLine.{OpLine}
-use Rattle.fs_script.specs.Job.{Job, op_at, phase, program}
-use Rattle.fs_script.specs.Pending.{Answering}
-use Rattle.fs_script.specs.SoFar.{IsLegalSoFar}
-use Rattle.fs_script.specs.Report.{ArePaths}
 use Rattle.core_machine.specs.Moment.{Moment, printed, answering, client_of, journal, ready}
 use Rattle.core_machine.specs.Step.{Turn, step}
 

@@ -15,3 +15,4 @@ pub mod Standing
 pub mod MomentReport
 pub mod RunLaws
 pub mod Core
+pub mod Vocabulary

@@ -1,14 +1,8 @@
 -- Moments of a simulated run: how far each client has come, the answers and the journals so far.
-use Rattle.std.specs.Prelude.{◌≡◌, ℕ, ◌-◌, Bool, false, ◌||◌, nat_le, List, [], ◌∷◌, ◌++◌, length, map, filter, sum_by, is_some, replicate, Option, Some, None, slice_index_or, if◌then◌else◌}
-use Rattle.std.specs.List.{slice_get, range_with_len, list_all, AllByRecursion}
-use Rattle.std.specs.Str.{bytes_eq}
-use Rattle.fs_types.specs.declared.answer.Answer.{Answer}
-use Rattle.fs_types.specs.AnswerList.{answer_at}
-use Rattle.fs_types.specs.PlainFile.{File}
-use Rattle.fs_script.specs.Job.{Job, op_lines, phase, program}
-use Rattle.fs_script.specs.Pending.{Answering}
-use Rattle.fs_script.specs.Effect.{state}
-use Rattle.fs_script.specs.Report.{journal_of, ArePaths}
+use Rattle.std.specs.Prelude.{◌≡◌, ℕ, ◌-◌, Bool, false, ◌||◌, nat_le, List, [], ◌∷◌, ◌++◌, length, map, filter, sum_by, is_some, replicate}
+use Rattle.std.specs.Prelude.{Option, Some, None, slice_index_or, if◌then◌else◌, slice_get, bytes_eq}
+use Rattle.std.specs.List.{range_with_len, list_all, AllByRecursion}
+use Rattle.fs_script.specs.Vocabulary.{Answer, answer_at, File, Job, op_lines, phase, program, Answering, state, journal_of, ArePaths}
 use Rattle.core_machine.specs.Doing.{Doing, nothing}
 
 -- how many lines of its program a client has done, and what it is in the midst of

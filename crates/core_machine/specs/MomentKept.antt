@@ -1,8 +1,6 @@
 -- The moment that what the core keeps stands for.
-use Rattle.std.specs.Prelude.{ℕ, ◌+◌, Bool, List, map, slice_index, slice_set}
-use Rattle.std.specs.List.{zip}
-use Rattle.fs_types.specs.AnswerList.{Given}
-use Rattle.fs_script.specs.Job.{Job}
+use Rattle.std.specs.Prelude.{ℕ, Bool, List, map, zip}
+use Rattle.fs_script.specs.Vocabulary.{Given, Job}
 use Rattle.core_machine.specs.declared.path_state.PathState.{PathState}
 use Rattle.core_machine.specs.Doing.{nothing}
 use Rattle.core_machine.specs.Moment.{Client, Moment}
@@ -24,7 +22,3 @@ moment_of s paths states answers turns spent = record {
   journals = journals_of paths states;
   spent = spent;
 }
-
--- client r has done one more line
-abbrev pub after_line : Places → ℕ → Places
-after_line v r = record { job = v.job; places = slice_set v.places r (slice_index v.places r + 1); phase = v.phase }

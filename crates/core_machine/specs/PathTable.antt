@@ -1,10 +1,9 @@
 -- The paths of a script's lines, each once, in the order in which they come.
-use Rattle.std.specs.Prelude.{ℕ, List, [], map, fold, Option, Some, None, Vec}
-use Rattle.std.specs.Str.{bytes_eq}
+use Rattle.std.specs.Prelude.{ℕ, List, [], map, fold, Option, Some, None, Vec, bytes_eq}
+use Rattle.indexmap.specs.IndexSet.{insert_key}
 use Rattle.fs_script.specs.declared.line.Line.{Line}
 use Rattle.fs_script.specs.declared.line.OpLine.{OpLine}
-use Rattle.fs_script.specs.Job.{operation}
-use Rattle.indexmap.specs.IndexSet.{insert_key}
+use Rattle.fs_script.specs.Vocabulary.{operation}
 
 -- the bytes of each vector
 abbrev pub texts : {A : Type 0} → List (Vec ℕ A) → List (List ℕ)

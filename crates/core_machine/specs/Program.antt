@@ -1,9 +1,9 @@
 -- What is kept of the clients' programs, and what it says of their turns.
-use Rattle.std.specs.Prelude.{◌≡◌, ℕ, ◌≤◌, List, All, Contains, [], ◌∷◌, ◌++◌, length, map, slice_index, slice_index_or, slice_set, Option, Some, None}
-use Rattle.std.specs.List.{slice_get, range_with_len, filter_map}
-use Rattle.std.specs.Option.{option_map}
+use Rattle.std.specs.Prelude.{◌≡◌, ℕ, ◌≤◌, List, All, Contains, [], ◌∷◌, ◌++◌, length, map, slice_index, slice_index_or, slice_set, Option}
+use Rattle.std.specs.Prelude.{Some, None, slice_get, filter_map, option_map}
+use Rattle.std.specs.List.{range_with_len}
 use Rattle.fs_script.specs.declared.line.OpLine.{OpLine}
-use Rattle.fs_script.specs.Job.{Job, phase, program}
+use Rattle.fs_script.specs.Vocabulary.{Job, phase, program}
 use Rattle.core_machine.specs.declared.program.Program.{Program}
 use Rattle.core_machine.specs.LegalSoFar.{HasClients}
 use Rattle.core_machine.specs.Turns.{Places, going, IsInPhase}

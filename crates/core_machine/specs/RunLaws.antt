@@ -1,7 +1,6 @@
 -- The law of simulated runs: what a run reports when no client has an event left is legal.
 use Rattle.std.specs.Prelude.{◌≡◌, ℕ, List, [], false}
-use Rattle.fs_script.specs.Job.{Job}
-use Rattle.fs_script.specs.Report.{IsLegal}
+use Rattle.fs_script.specs.Vocabulary.{Job, IsLegal}
 use Rattle.core_machine.specs.Moment.{Moment, IsFirst, ready}
 use Rattle.core_machine.specs.MomentReport.{report_of}
 use Rattle.core_machine.specs.Step.{Turn}

@@ -1,13 +1,8 @@
 -- When what the core keeps for the paths of a job stands for the answers so far. What is kept for a client stands for them
 -- as seen from the script's end: a line without an answer changes nothing there, so no client's place comes in.
-use Rattle.std.specs.Prelude.{◌≡◌, ℕ, ◌<◌, ◌≤◌, ◌+◌, nat_lt, count_by, List, length, slice_index, IsSome, IfSome, Some}
-use Rattle.std.specs.List.{slice_get, AllByRecursion}
-use Rattle.fs_types.specs.AnswerList.{Given, answer_at}
-use Rattle.fs_script.specs.Job.{Job, phase}
-use Rattle.fs_script.specs.Pending.{Answering, pending}
-use Rattle.fs_script.specs.Effect.{state}
-use Rattle.fs_script.specs.Front.{is_open, seen}
-use Rattle.fs_script.specs.Report.{ArePaths}
+use Rattle.std.specs.Prelude.{◌≡◌, ℕ, ◌<◌, ◌≤◌, ◌+◌, nat_lt, count_by, List, length, slice_index, IsSome, IfSome, Some, slice_get}
+use Rattle.std.specs.List.{AllByRecursion}
+use Rattle.fs_script.specs.Vocabulary.{Given, answer_at, Job, phase, Answering, pending, state, is_open, seen, ArePaths}
 use Rattle.core_machine.specs.declared.path_state.OwnedPath.{OwnedPath}
 use Rattle.core_machine.specs.declared.path_state.ClientPath.{ClientPath}
 use Rattle.core_machine.specs.declared.path_state.PathState.{PathState}

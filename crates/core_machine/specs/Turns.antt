@@ -1,7 +1,8 @@
 -- Whose turn it may be: how far each client has come, and the phase that the run is in.
-use Rattle.std.specs.Prelude.{◌≡◌, ℕ, ◌≤◌, ◌<◌, ◌==◌, Bool, false, List, [], filter, slice_index, Option, Some, None}
-use Rattle.std.specs.List.{slice_get, range_with_len}
-use Rattle.fs_script.specs.Job.{Job, phase, program}
+use Rattle.std.specs.Prelude.{◌≡◌, ℕ, ◌≤◌, ◌<◌, ◌==◌, Bool, false, List, [], filter, slice_index, slice_set, ◌+◌, Option, Some, None}
+use Rattle.std.specs.Prelude.{slice_get}
+use Rattle.std.specs.List.{range_with_len}
+use Rattle.fs_script.specs.Vocabulary.{Job, phase, program}
 
 pub record Places : Type 0 where
   pub job : Job
@@ -13,6 +14,10 @@ pub record Places : Type 0 where
 -- the line of its program that a client does next
 abbrev pub next_in : Places → ℕ → Option ℕ
 next_in v r = slice_get (program v.job r) (slice_index v.places r)
+
+-- client r has done one more line
+abbrev pub after_line : Places → ℕ → Places
+after_line v r = record v { places = slice_set v.places r (slice_index v.places r + 1) }
 
 -- whether there is such a line, and it is of phase k
 abbrev pub is_of_phase : Job → ℕ → Option ℕ → Bool

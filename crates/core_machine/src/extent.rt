@@ -35,6 +35,7 @@ pub fn covered(s: &Script, extents: &[Extent]) -> u64
 }
 
 // Puts the bytes of one extent over those of `out`, which are the file's from `off` on.
+#[tactic(auto, using(crate::proofs::Extents::Bytes::overlaid))]
 fn overlay(s: &Script, x: &Extent, off: u64, out: &mut [u8])
     requires extent { IsExtent s.now x.now }
     requires fits { off + length out.old < 2 ^ 64 }
@@ -50,6 +51,7 @@ fn overlay(s: &Script, x: &Extent, off: u64, out: &mut [u8])
 }
 
 // Puts the bytes of all the extents, one after the other, over `out`, which are zeros.
+#[tactic(auto, using(crate::proofs::Extents::Bytes::extents_more))]
 fn overlay_all(s: &Script, extents: &[Extent], off: u64, out: &mut [u8])
     requires extents { AreExtents s.now extents.now }
     requires fits { off + length out.old < 2 ^ 64 }

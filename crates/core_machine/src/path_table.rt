@@ -31,6 +31,7 @@ impl Model for PathTable {
 }
 
 // Adds a path, unless it is there.
+#[tactic(auto, using(crate::proofs::PathTables::added_paths))]
 fn add_path(alloc: Global, paths: &mut IndexSet<Vec<u8>>, p: &[u8]) -> Result<(), Want>
     ensures { OnOk result (texts paths.new.keys ≡ with_path (texts paths.old.keys) p.now) }
 {
@@ -56,6 +57,7 @@ fn add_path_of_line(
 }
 
 // The paths in the order of the first lines that name them.
+#[tactic(auto, using(crate::proofs::PathTables::named_paths))]
 fn paths_by_line(alloc: Global, s: &Script) -> Result<IndexSet<Vec<u8>>, Want>
     ensures { IfOk result (λ paths. texts paths.keys ≡ paths_of s.now.lines) }
 {
@@ -68,6 +70,7 @@ fn paths_by_line(alloc: Global, s: &Script) -> Result<IndexSet<Vec<u8>>, Want>
 
 impl PathTable {
     /// The paths that the script names.
+    #[tactic(auto, using(crate::proofs::PathTables::sorted_paths))]
     pub fn of_script(alloc: Global, s: &Script) -> Result<PathTable, Want>
         ensures { IfOk result (λ t. ArePaths s.now t) }
     {

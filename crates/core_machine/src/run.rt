@@ -9,7 +9,8 @@ ghost use Rattle.core_machine.specs.Step.{step};
 ghost use Rattle.core_machine.specs.Kept.{IsFreshPath, with_board};
 ghost use Rattle.core_machine.specs.Follows.{FollowsFor, IsSoundFor};
 ghost use Rattle.core_machine.specs.Turns.{going};
-ghost use Rattle.core_machine.specs.MomentKept.{after_line, journals_of, moment_of};
+ghost use Rattle.core_machine.specs.MomentKept.{journals_of, moment_of};
+ghost use Rattle.core_machine.specs.Turns.{after_line};
 ghost use Rattle.core_machine.specs.Standing.{Holds};
 ghost use Rattle.core_machine.specs.Core.{IsRun, moment};
 
@@ -203,6 +204,7 @@ pub fn ready<'r>(run: &'r Run<'_>) -> &'r [Rank]
 }
 
 /// The journal of a path, empty where the script doesn't name it.
+#[tactic(auto, using(crate::proofs::Refines::Reads::kept_reads))]
 pub fn journal<'r>(run: &'r Run<'_>, p: &Path) -> &'r [LineNo]
     requires { IsRun run.now }
     ensures { result.now ≡ journal (moment run.now) p.now }
@@ -214,6 +216,7 @@ pub fn journal<'r>(run: &'r Run<'_>, p: &Path) -> &'r [LineNo]
 }
 
 /// The file of a path. Once memory ran out what is kept is open, and the answer is the same want.
+#[tactic(auto, using(crate::proofs::Refines::Reads::kept_reads))]
 pub fn file(run: &Run<'_>, p: &Path) -> Result<FileState, Want>
     requires { IsRun run.now }
     ensures { IfOk result (λ f. f ≡ file_state_of (file_now (moment run.now) p.now)) }

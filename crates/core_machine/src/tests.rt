@@ -34,7 +34,7 @@ fn is_hello(file: &FileState) -> bool {
                 && !*frozen
                 && md5.0 == *b"\x5d\x41\x40\x2a\xbc\x4b\x2a\x76\xb9\x71\x9d\x91\x10\x17\xc5\x92"
         }
-        FileState::Gone => false,
+        FileState::Gone | FileState::Unread { .. } => false,
     }
 }
 

@@ -1,9 +1,10 @@
 //! The least version that a line may print.
 
-ghost use Rattle.std.specs.Prelude.{◌≡◌, option_copied};
+ghost use Rattle.std.specs.Prelude.{◌≡◌, ℕ, option_copied};
 ghost use Rattle.fs_types.specs.AnswerList.{answer_at};
 ghost use Rattle.fs_script.specs.AnswerKinds.{version_of};
-ghost use Rattle.fs_script.specs.Front.{at_least, of_earlier_phases, seen, seen_after};
+ghost use Rattle.fs_script.specs.Pending.{one_more};
+ghost use Rattle.fs_script.specs.Front.{at_least, of_earlier_phases, seen};
 ghost use Rattle.fs_plain.specs.Front.{front_at};
 
 use crate::answer_kinds::version_of;
@@ -24,7 +25,8 @@ fn at_least(most: u64, a: &Answer) -> u64
 
 // The same with the answer to an own operation, if it is one and was answered.
 fn seen_after(op: Option<&Op>, a: Option<&Answer>, most: u64) -> u64
-    ensures { result ≡ seen_after (option_copied op.entry) (option_copied a.entry) most }
+    ensures { (n : ℕ) → result ≡ one_more (λ op a n most. at_least most (version_of a))
+        (option_copied op.entry) (option_copied a.entry) n most }
 {
     match (op, a) {
         (Some(_), Some(a)) => at_least(most, a),

@@ -9,7 +9,7 @@ pub use Rattle.fs_script.proofs.Reading.Scripts.{script_is_job}
 pub use Rattle.fs_script.proofs.Fronts.{phase-rises}
 pub use Rattle.fs_script.proofs.Programs.{program-place, program-op}
 -- what one more answer leaves as it was
-pub use Rattle.fs_script.proofs.Agreement.{pending-agree, seen-agree, is_open-agree, AddsAnswer-put}
+pub use Rattle.fs_script.proofs.Agreement.{pending-agree, over_answers-agree, AddsAnswer-put}
 pub use Rattle.fs_script.proofs.JournalGrows.{own_op-rank, AgreeBefore-next, pending_at-answered, pending_at-next}
 -- the file at a version, as answers come and as the journal grows
 pub use Rattle.fs_script.proofs.States.{put_lines-append, state_in-agree, state_in-push, state_in-push_last}
@@ -23,7 +23,7 @@ pub use Rattle.fs_script.proofs.Finished.{IsLegal-finished}
 pub use Rattle.fs_script.proofs.AnsweredLines.{rises_past, lines-passing}
 -- plain lists, ranges and options
 pub use Rattle.fs_script.proofs.PlainLists.{some_of, none_from-is_some}
-pub use Rattle.fs_script.proofs.PlainLists.{AllByRecursion-from_get, AllByRecursion-push, slice_get-push_last}
+pub use Rattle.fs_script.proofs.PlainLists.{AllByRecursion-from_get, AllByRecursion-weaker, AllByRecursion-push, slice_get-push_last}
 pub use Rattle.fs_script.proofs.PlainLists.{range-push, slice_get-range}
 pub use Rattle.fs_script.proofs.PlainLists.{passes, passing-rise, passing-place, passing-places}
 -- the script of five lines, for worked cases

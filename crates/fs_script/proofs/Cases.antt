@@ -1,22 +1,13 @@
 -- Two more scripts, worked out by hand: writes of nothing and refused creates, and pending writes over each other and past the end.
-use Rattle.std.proofs.Common.{◌≡◌, ℕ, zero, suc, List, [], ◌∷◌, ◌++◌, Some, None, false, slice_get, Contains, refl, subst, arith}
-use Rattle.std.specs.Prelude.{codes}
-use Rattle.std.proofs.lemmas.Option.{none-some, same_Some}
-use Rattle.fs_types.specs.declared.answer.Answer.{Answer}
+use Rattle.fs_types.proofs.Common.{◌≡◌, ℕ, zero, suc, List, [], ◌∷◌, ◌++◌, Some, None, false, slice_get, Contains, refl, subst, arith}
+use Rattle.fs_types.proofs.Common.{codes, none-some, same_Some}
+use Rattle.fs_script.specs.Vocabulary.{Answer, answer_at, OpLine, Text, Job, phase, program, op_lines, Answering, pending_at, state, front}
+use Rattle.fs_script.specs.Vocabulary.{is_open, Fits, committed, IsLegalEntry, IsLegalJournal}
+use Rattle.fs_script.proofs.FiveLines.{path_a, on_a, five_shape}
 use Rattle.fs_types.specs.declared.answer.Answer.TheVariants as answers
 use Rattle.fs_types.specs.declared.answer.Body.TheVariants as bodies
-use Rattle.fs_types.specs.AnswerList.{answer_at}
 use Rattle.fs_script.specs.declared.line.Line.TheVariants as lines
-use Rattle.fs_script.specs.declared.line.OpLine.{OpLine}
 use Rattle.fs_script.specs.declared.line.Op.TheVariants as ops
-use Rattle.fs_script.specs.declared.line.Data.TheVariants.{Text}
-use Rattle.fs_script.specs.Job.{Job, phase, program, op_lines}
-use Rattle.fs_script.specs.Pending.{Answering, pending_at}
-use Rattle.fs_script.specs.Effect.{state}
-use Rattle.fs_script.specs.Front.{front, is_open}
-use Rattle.fs_script.specs.Fits.{Fits}
-use Rattle.fs_script.specs.Journal.{committed, IsLegalEntry, IsLegalJournal}
-use Rattle.fs_script.proofs.FiveLines.{path_a, on_a, five_shape}
 
 -- ---- a write of nothing, a sync with nothing pending, and a create of what is there
 
@@ -125,7 +116,8 @@ two_pending = refl
 later_over_earlier : state overlapping overlapping_answers overlapping_journal 2 ≡ Some (record { cells = codes "helxyz"; frozen = false })
 later_over_earlier = refl
 
-gap_of_zeros : state overlapping overlapping_answers overlapping_journal 3 ≡ Some (record { cells = codes "helxyz" ++ 0 ∷ 0 ∷ 0 ∷ 0 ∷ codes "!"; frozen = false })
+gap_of_zeros : state overlapping overlapping_answers overlapping_journal 3
+    ≡ Some (record { cells = codes "helxyz" ++ 0 ∷ 0 ∷ 0 ∷ 0 ∷ codes "!"; frozen = false })
 gap_of_zeros = refl
 
 -- the barrier stands before line 7
@@ -149,13 +141,17 @@ lines_of_operations = refl
 program_of_another : program overlapping 1 ≡ []
 program_of_another = refl
 
-gap_shown : Fits [] overlapping overlapping_answers overlapping_journal 10 (on_a (ops.Read 4 100)) (answers.Shown 3 7 (bodies.Hex (codes "yz" ++ 0 ∷ 0 ∷ 0 ∷ 0 ∷ codes "!")))
+gap_shown : Fits [] overlapping overlapping_answers overlapping_journal 10 (on_a (ops.Read 4 100))
+    (answers.Shown 3 7 (bodies.Hex (codes "yz" ++ 0 ∷ 0 ∷ 0 ∷ 0 ∷ codes "!")))
 gap_shown = record {
   opened = refl;
   version = record {
     front = omega arith;
     length = omega arith;
-    no_later = (record { phase = omega arith; own = λ _. omega arith }, (record { phase = omega arith; own = λ _. omega arith }, (record { phase = omega arith; own = λ _. omega arith }, tt)));
+    no_later = (
+      record { phase = omega arith; own = λ _. omega arith },
+      (record { phase = omega arith; own = λ _. omega arith }, (record { phase = omega arith; own = λ _. omega arith }, tt)),
+    );
   };
   answer = record { count = refl; same = λ _. refl };
 }

@@ -1,11 +1,9 @@
 -- A digest is sixteen bytes.
-use Rattle.std.proofs.Common.{ℕ, zero, suc, ◌<◌, List, arith}
-use Rattle.std.specs.Prelude.{slice_index}
-use Rattle.std.specs.Int.{w32, byte_at, bytes_low_first, to_le_bytes}
-use Rattle.std.proofs.lemmas.List.Elements.{All-nil, All-cons, All-append, recursion_from_All}
+use Rattle.fs_types.proofs.Common.{ℕ, zero, suc, ◌<◌, List, arith, slice_index, w32, byte_at, bytes_low_first, to_le_bytes, All-nil}
+use Rattle.fs_types.proofs.Common.{All-cons, All-append, recursion_from_All}
 use Rattle.md5.specs.Md5.{md5, digest_bytes}
+use Rattle.fs_script.specs.Vocabulary.{IsDigest}
 use Rattle.md5.proofs.StandardFacts.{length-md5}
-use Rattle.fs_script.specs.Printable.{IsDigest}
 use Rattle.fs_script.proofs.FileBytes.{AllBytes}
 
 byte_at-below : (i n : ℕ) → byte_at i n < 256
@@ -30,7 +28,4 @@ unfolding md5
 AllBytes-md5 bytes = AllBytes-digest_bytes _ 4
 
 pub IsDigest-md5 : (bytes : List ℕ) → IsDigest (md5 bytes)
-IsDigest-md5 bytes = record {
-  size = length-md5 bytes;
-  bytes = recursion_from_All (λ b. b < 256) (md5 bytes) (AllBytes-md5 bytes);
-}
+IsDigest-md5 bytes = record { size = length-md5 bytes; bytes = recursion_from_All (λ b. b < 256) (md5 bytes) (AllBytes-md5 bytes) }

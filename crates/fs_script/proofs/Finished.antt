@@ -1,13 +1,9 @@
 -- A job that is legal so far, with an answer to each of its operations, has a legal report.
-use Rattle.std.proofs.Common.{◌≡◌, ℕ, zero, suc, ◌<◌, ◌==◌, List, [], ◌∷◌, length, map, Some, IsSome, is_some, Contains, slice_index_or, refl, sym, ap, subst, arith}
-use Rattle.std.proofs.lemmas.Bool.{cond_both, eqb-false}
-use Rattle.std.proofs.lemmas.Option.{slice_get_within, get_or_from_slice_get}
-use Rattle.fs_types.specs.declared.answer.Answer.{Answer}
-use Rattle.fs_types.specs.AnswerList.{answer_at}
-use Rattle.fs_script.specs.declared.line.OpLine.{OpLine}
-use Rattle.fs_script.specs.Job.{Job, op_at, op_lines}
-use Rattle.fs_script.specs.Report.{Report, HasShape, FilesAreStates, IsLegal, answers_of, journal_of}
-use Rattle.fs_script.specs.SoFar.{IsLegalSoFar}
+use Rattle.fs_types.proofs.Common.{◌≡◌, ℕ, zero, suc, ◌<◌, ◌==◌, List, [], ◌∷◌, length, map, Some, IsSome, is_some, Contains}
+use Rattle.fs_types.proofs.Common.{slice_index_or, refl, sym, ap, subst, arith, cond_both, eqb-false, slice_get_within}
+use Rattle.fs_types.proofs.Common.{get_or_from_slice_get}
+use Rattle.fs_script.specs.Vocabulary.{Answer, answer_at, OpLine, Job, op_at, op_lines, Report, HasShape, FilesAreStates, IsLegal}
+use Rattle.fs_script.specs.Vocabulary.{answers_of, journal_of, IsLegalSoFar}
 use Rattle.fs_script.proofs.PlainLists.{passing-place, some_of}
 use Rattle.fs_script.proofs.Jobs.{op_at-within}
 
@@ -23,23 +19,29 @@ op_lines-contains s n o is =
 -- ---- the answers
 
 -- a line at place k of the list has an answer
-answer_at-listed : (xs : List (ℕ × Answer)) (n k : ℕ) → k < length (map (λ (a : ℕ × Answer). a.0) xs) → slice_index_or (map (λ (a : ℕ × Answer). a.0) xs) k n ≡ n → IsSome (answer_at xs n)
+answer_at-listed : (xs : List (ℕ × Answer)) (n k : ℕ) → k < length (map (λ (a : ℕ × Answer). a.0) xs)
+    → slice_index_or (map (λ (a : ℕ × Answer). a.0) xs) k n ≡ n → IsSome (answer_at xs n)
 answer_at-listed [] n k below same = absurd (omega arith)
-answer_at-listed (x ∷ xs) n zero below same = cond_both (x.0 == n) (Some x.1) (answer_at xs n) (λ a. IsSome a) (λ _. refl) (λ other. absurd (eqb-false x.0 n other same))
-answer_at-listed (x ∷ xs) n (suc k) below same = cond_both (x.0 == n) (Some x.1) (answer_at xs n) (λ a. IsSome a) (λ _. refl) (λ _. answer_at-listed xs n k (omega arith) same)
+answer_at-listed (x ∷ xs) n zero below same = cond_both (x.0 == n) (Some x.1) (answer_at xs n) (λ a. IsSome a) (λ _. refl)
+    (λ other. absurd (eqb-false x.0 n other same))
+answer_at-listed (x ∷ xs) n (suc k) below same = cond_both (x.0 == n) (Some x.1) (answer_at xs n) (λ a. IsSome a) (λ _. refl)
+    (λ _. answer_at-listed xs n k (omega arith) same)
 
 -- a report of the right shape answers each operation
-answered-in_report : (s : Job) (R : Report) (n : ℕ) (o : OpLine) → HasShape s R → op_at s n ≡ Some o → IsSome (answers_of R n)
-answered-in_report s R n o shape is =
+answered-in_report : {s : Job} {R : Report} (n : ℕ) (o : OpLine) → HasShape s R → op_at s n ≡ Some o → IsSome (answers_of R n)
+answered-in_report {s} {R} n o shape is =
     let there = subst (λ xs. Contains xs n) (sym shape.answers) (op_lines-contains s n o is) in
     answer_at-listed R.answers n there.0 there.1 there.2
 
-pub IsLegal-finished : (told : List ℕ) (s : Job) (R : Report) → HasShape s R → FilesAreStates s R → IsLegalSoFar told s (answers_of R) (journal_of R.journals) → IsLegal s R told
-IsLegal-finished told s R shape files so_far = record {
+pub IsLegal-finished : {told : List ℕ} {s : Job} {R : Report} → HasShape s R → FilesAreStates s R
+    → IsLegalSoFar told s (answers_of R) (journal_of R.journals) → IsLegal s R told
+IsLegal-finished {s} {R} shape files so_far = record {
   shape = shape;
   journals = so_far.legal;
   lines = λ n o is.
-      let given = some_of (answers_of R n) (answered-in_report s R n o shape is) in
+      let given = some_of (answers_of R n) (answered-in_report n o shape is) in
       record { answer = given.0; given = given.1; fits = (so_far.fit o.path).each n o given.0 is refl given.1 };
   files = files;
 }
+
+pub ruleset finished = (IsLegal-finished)

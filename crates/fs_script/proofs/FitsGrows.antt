@@ -1,43 +1,37 @@
 -- An answer that fits goes on fitting: as answers come that change nothing before its line or pending at the journal's lines,
 -- and as the journal grows at its end by lines of no earlier phase.
-use Rattle.std.proofs.Common.{◌≡◌, ℕ, zero, suc, ◌≤◌, Bool, true, false, IsTrue, List, [], ◌∷◌, ◌++◌, length, Option, Some, None, IsSome, IsNone, IfSome, MatchBool, sym, subst, arith}
-use Rattle.std.specs.List.{AllByRecursion}
-use Rattle.std.proofs.lemmas.Option.{none-some}
-use Rattle.std.proofs.lemmas.List.{take-append-le, length_push}
-use Rattle.fs_types.specs.declared.answer.Answer.{Answer}
-use Rattle.fs_types.specs.declared.answer.Answer.TheVariants as answers
-use Rattle.fs_types.specs.PlainFile.{File, is_open_to_change, is_frozen}
-use Rattle.fs_script.specs.declared.line.OpLine.{OpLine}
-use Rattle.fs_script.specs.declared.line.Op.{Op}
-use Rattle.fs_script.specs.Job.{Job, phase}
-use Rattle.fs_script.specs.Payload.{Write, brought, bytes_of}
-use Rattle.fs_script.specs.Operations.{asked, commits}
-use Rattle.fs_script.specs.AnswerKinds.{version_of}
-use Rattle.fs_script.specs.Pending.{Answering}
-use Rattle.fs_script.specs.Effect.{state}
-use Rattle.fs_script.specs.Front.{front}
-use Rattle.fs_script.specs.Fits.{IsSized, IsNoLater, IsInReach, entry, AreTold, AgreesWithOpen, LineView, line_view, MayWrite, IsAtFront, Accepts, EndsPast, ShowsAsked, IsInTable, Fits}
-use Rattle.fs_script.specs.Growth.{AgreeBefore, SamePending}
-use Rattle.fs_script.proofs.Agreement.{pending-agree, is_open-agree}
+use Rattle.fs_types.proofs.Common.{◌≡◌, ℕ, zero, suc, ◌≤◌, Bool, true, false, IsTrue, List, [], ◌∷◌, ◌++◌, length, Option, Some, None}
+use Rattle.fs_types.proofs.Common.{IsSome, IsNone, IfSome, MatchBool, sym, subst, arith, AllByRecursion, none-some, take-append-le}
+use Rattle.fs_types.proofs.Common.{length_push}
+use Rattle.fs_script.specs.Vocabulary.{Answer, File, is_open_to_change, is_frozen, OpLine, Op, Job, phase, Write, brought, bytes_of, asked}
+use Rattle.fs_script.specs.Vocabulary.{commits, version_of, Answering, state, front, IsNoLater, IsInReach, entry, AreTold, AgreesWithOpen}
+use Rattle.fs_script.specs.Vocabulary.{LineView, line_view, MayWrite, IsAtFront, Accepts, EndsPast, ShowsAsked, IsInTable, Fits}
+use Rattle.fs_script.specs.Vocabulary.{AgreeBefore, SamePending}
+use Rattle.fs_script.proofs.Agreement.{pending-agree, over_answers-agree}
 use Rattle.fs_script.proofs.States.{state_in-agree, state_in-push}
 use Rattle.fs_script.proofs.Fronts.{front-agree, front-push}
 use Rattle.fs_script.proofs.PlainLists.{slice_get-push}
+use Rattle.fs_types.specs.declared.answer.Answer.TheVariants as answers
+use Rattle.fs_script.specs.Fits.{IsSized}
 
 -- ---- answers come
 
-IsInReach-agree : (s : Job) (A B : Answering) (J : List ℕ) (n : ℕ) (o : OpLine) (v : ℕ) → AgreeBefore s o.rank o.path A B n → IsInReach s A J n o v → IsInReach s B J n o v
-IsInReach-agree s A B J n o v h reach = record {
+IsInReach-agree : {s : Job} {A : Answering} (B : Answering) {J : List ℕ} {n : ℕ} {o : OpLine} {v : ℕ} → AgreeBefore s o.rank o.path A B n
+    → IsInReach s A J n o v → IsInReach s B J n o v
+IsInReach-agree {s} {A} B {J} {n} {o} {v} h reach = record {
   front = subst (λ k. k ≤ v) (front-agree s A B J o.rank o.path n h) reach.front;
   length = reach.length;
   no_later = reach.no_later;
 }
 
-IfSome-agree : (s : Job) (A B : Answering) (J : List ℕ) (n : ℕ) (o : OpLine) (v : Option ℕ) → AgreeBefore s o.rank o.path A B n → IfSome v (λ w. IsInReach s A J n o w) → IfSome v (λ w. IsInReach s B J n o w)
+IfSome-agree : (s : Job) (A B : Answering) (J : List ℕ) (n : ℕ) (o : OpLine) (v : Option ℕ) → AgreeBefore s o.rank o.path A B n
+    → IfSome v (λ w. IsInReach s A J n o w) → IfSome v (λ w. IsInReach s B J n o w)
 IfSome-agree s A B J n o None h reach = tt
-IfSome-agree s A B J n o (Some v) h reach = IsInReach-agree s A B J n o v h reach
+IfSome-agree s A B J n o (Some v) h reach = IsInReach-agree B h reach
 
 -- what an answer is checked against is the same
-line_view-agree : (s : Job) (A B : Answering) (J : List ℕ) (n : ℕ) (o : OpLine) → AgreeBefore s o.rank o.path A B n → SamePending s A B J → line_view s A J n o ≡ line_view s B J n o
+line_view-agree : (s : Job) (A B : Answering) (J : List ℕ) (n : ℕ) (o : OpLine) → AgreeBefore s o.rank o.path A B n → SamePending s A B J
+    → line_view s A J n o ≡ line_view s B J n o
 line_view-agree s A B J n o h same i = record {
   number = n;
   journal = J;
@@ -48,10 +42,10 @@ line_view-agree s A B J n o h same i = record {
 }
 
 -- answers of others, and later answers of the same client, leave it fitting
-pub Fits-agree : (told : List ℕ) (s : Job) (A B : Answering) (J : List ℕ) (n : ℕ) (o : OpLine) (a : Answer) → AgreeBefore s o.rank o.path A B n → SamePending s A B J
-    → Fits told s A J n o a → Fits told s B J n o a
-Fits-agree told s A B J n o a h same fits = record {
-  opened = subst (λ b. AgreesWithOpen o.op b a) (is_open-agree s o.rank o.path A B n h) fits.opened;
+pub Fits-agree : {told : List ℕ} {s : Job} {A : Answering} (B : Answering) {J : List ℕ} {n : ℕ} {o : OpLine} {a : Answer}
+    → AgreeBefore s o.rank o.path A B n → SamePending s A B J → Fits told s A J n o a → Fits told s B J n o a
+Fits-agree {told} {s} {A} B {J} {n} {o} {a} h same fits = record {
+  opened = subst (λ b. AgreesWithOpen o.op b a) (over_answers-agree _ _ s o.rank o.path A B n h) fits.opened;
   version = IfSome-agree s A B J n o (version_of a) h fits.version;
   answer = subst (λ w. IsInTable (AreTold s told) w o.op a) (line_view-agree s A B J n o h same) fits.answer;
 }
@@ -62,19 +56,22 @@ entry-push : (J : List ℕ) (m v n : ℕ) → entry J v ≡ Some n → entry (J 
 entry-push J m zero n h = absurd (none-some n h)
 entry-push J m (suc k) n h = slice_get-push J m k n h
 
-IsInReach-push : (s : Job) (A : Answering) (J : List ℕ) (m n : ℕ) (o : OpLine) (v : ℕ) → phase s n ≤ phase s m → IsInReach s A J n o v → IsInReach s A (J ++ m ∷ []) n o v
-IsInReach-push s A J m n o v later reach = record {
+IsInReach-push : {s : Job} {A : Answering} {J : List ℕ} (m : ℕ) {n : ℕ} {o : OpLine} {v : ℕ} → phase s n ≤ phase s m → IsInReach s A J n o v
+    → IsInReach s A (J ++ m ∷ []) n o v
+IsInReach-push {s} {A} {J} m {n} {o} {v} later reach = record {
   front = subst (λ k. k ≤ v) (sym (front-push s A J o.rank o.path n m later)) reach.front;
   length = omega (arith, length_push J m, reach.length);
   no_later = subst (λ K. AllByRecursion (λ k. IsNoLater s o.rank n k) K) (sym (take-append-le v J (m ∷ []) reach.length)) reach.no_later;
 }
 
-IfSome-push : (s : Job) (A : Answering) (J : List ℕ) (m n : ℕ) (o : OpLine) (v : Option ℕ) → phase s n ≤ phase s m → IfSome v (λ w. IsInReach s A J n o w) → IfSome v (λ w. IsInReach s A (J ++ m ∷ []) n o w)
+IfSome-push : (s : Job) (A : Answering) (J : List ℕ) (m n : ℕ) (o : OpLine) (v : Option ℕ) → phase s n ≤ phase s m
+    → IfSome v (λ w. IsInReach s A J n o w) → IfSome v (λ w. IsInReach s A (J ++ m ∷ []) n o w)
 IfSome-push s A J m n o None later reach = tt
-IfSome-push s A J m n o (Some v) later reach = IsInReach-push s A J m n o v later reach
+IfSome-push s A J m n o (Some v) later reach = IsInReach-push m later reach
 
 -- a version that an answer prints keeps its file
-version-state-push : (s : Job) (A : Answering) (J : List ℕ) (m n : ℕ) (o : OpLine) (v : Option ℕ) → IfSome v (λ w. IsInReach s A J n o w) → IfSome v (λ w. state s A (J ++ m ∷ []) w ≡ state s A J w)
+version-state-push : (s : Job) (A : Answering) (J : List ℕ) (m n : ℕ) (o : OpLine) (v : Option ℕ) → IfSome v (λ w. IsInReach s A J n o w)
+    → IfSome v (λ w. state s A (J ++ m ∷ []) w ≡ state s A J w)
 version-state-push s A J m n o None reach = tt
 version-state-push s A J m n o (Some v) reach = state_in-push s (bytes_of s) A J m v reach.length
 
@@ -86,31 +83,36 @@ MatchBool-push false f g h = g h
 abbrev longer_view : LineView → List ℕ → (ℕ → File ℕ) → LineView
 longer_view w K g = record w { journal = K; file = g }
 
-Accepts-push : (w : LineView) (K : List ℕ) (g : ℕ → File ℕ) (x : Option Write) (slots : ℕ) → (MayWrite w → MayWrite (longer_view w K g)) → Accepts w x slots → Accepts (longer_view w K g) x slots
+Accepts-push : (w : LineView) (K : List ℕ) (g : ℕ → File ℕ) (x : Option Write) (slots : ℕ) → (MayWrite w → MayWrite (longer_view w K g))
+    → Accepts w x slots → Accepts (longer_view w K g) x slots
 Accepts-push w K g None slots writes h = h
 Accepts-push w K g (Some x) slots writes h = (writes h.0, h.1, h.2)
 
-EndsPast-push : (w : LineView) (K : List ℕ) (g : ℕ → File ℕ) (x : Option Write) → (MayWrite w → MayWrite (longer_view w K g)) → EndsPast w x → EndsPast (longer_view w K g) x
+EndsPast-push : (w : LineView) (K : List ℕ) (g : ℕ → File ℕ) (x : Option Write) → (MayWrite w → MayWrite (longer_view w K g)) → EndsPast w x
+    → EndsPast (longer_view w K g) x
 EndsPast-push w K g None writes h = h
 EndsPast-push w K g (Some x) writes h = (writes h.0, h.1)
 
-IsAtFront-push : (w : LineView) (K : List ℕ) (g : ℕ → File ℕ) (x : Option Write) (v : ℕ) → IsAtFront w x v → IsAtFront (longer_view w K g) x v
+IsAtFront-push : (w : LineView) (K : List ℕ) (g : ℕ → File ℕ) (x : Option Write) (v : ℕ) → IsAtFront w x v
+    → IsAtFront (longer_view w K g) x v
 IsAtFront-push w K g None v h = h
 IsAtFront-push w K g (Some x) v h = h
 
 -- with a longer journal, the same files at the versions that an answer prints, and no file taken from a writer
 IsInTable-push : (compared : Type 0) (w : LineView) (K : List ℕ) (g : ℕ → File ℕ) (op : Op) (a : Answer)
-    → ((v n : ℕ) → entry w.journal v ≡ Some n → entry K v ≡ Some n) → IfSome (version_of a) (λ v. g v ≡ w.file v) → (MayWrite w → MayWrite (longer_view w K g))
-    → IsInTable compared w op a → IsInTable compared (longer_view w K g) op a
+    → ((v n : ℕ) → entry w.journal v ≡ Some n → entry K v ≡ Some n) → IfSome (version_of a) (λ v. g v ≡ w.file v)
+    → (MayWrite w → MayWrite (longer_view w K g)) → IsInTable compared w op a → IsInTable compared (longer_view w K g) op a
 IsInTable-push compared w K g op (answers.Done v) entries file writes h =
     MatchBool-push (commits op w.pending) (entries v w.number) (λ k. (k.0, subst (λ f. IsSome f) (sym file) k.1)) h
 IsInTable-push compared w K g op (answers.Wrote slots) entries file writes h = Accepts-push w K g (brought op) slots writes h
 IsInTable-push compared w K g op (answers.Staged v n slots) entries file writes h = h
 IsInTable-push compared w K g op (answers.Sized v n frozen) entries file writes h = (h.0, subst (λ f. IsSized f n frozen) (sym file) h.1)
-IsInTable-push compared w K g op (answers.Shown v n body) entries file writes h = subst (λ f. ShowsAsked compared (asked op) f n body) (sym file) h
+IsInTable-push compared w K g op (answers.Shown v n body) entries file writes h =
+    subst (λ f. ShowsAsked compared (asked op) f n body) (sym file) h
 IsInTable-push compared w K g op answers.BadF entries file writes h = h
 IsInTable-push compared w K g op (answers.Exists v) entries file writes h = (h.0, subst (λ f. IsSome f) (sym file) h.1)
-IsInTable-push compared w K g op (answers.NoEnt v) entries file writes h = (h.0, IsAtFront-push w K g (brought op) v h.1, subst (λ f. IsNone f) (sym file) h.2)
+IsInTable-push compared w K g op (answers.NoEnt v) entries file writes h =
+    (h.0, IsAtFront-push w K g (brought op) v h.1, subst (λ f. IsNone f) (sym file) h.2)
 IsInTable-push compared w K g op (answers.ReadOnly v) entries file writes h =
     (h.0, IsAtFront-push w K g (brought op) v h.1, subst (λ f. IsTrue (is_frozen f)) (sym file) h.2)
 IsInTable-push compared w K g op answers.TooBig entries file writes h = EndsPast-push w K g (brought op) writes h
@@ -118,10 +120,11 @@ IsInTable-push compared w K g op (answers.TooBigAt v) entries file writes h = h
 IsInTable-push compared w K g op (answers.NoSpace need free) entries file writes h = h
 IsInTable-push compared w K g op (answers.DevFault rank) entries file writes h = h
 
-Fits-push_from : (told : List ℕ) (s : Job) (A : Answering) (J : List ℕ) (m n : ℕ) (o : OpLine) (a : Answer) → phase s n ≤ phase s m
-    → (IsTrue (is_open_to_change (state s A J (front s A J o.rank o.path n))) → IsTrue (is_open_to_change (state s A (J ++ m ∷ []) (front s A J o.rank o.path n))))
+Fits-push_from : {told : List ℕ} {s : Job} {A : Answering} {J : List ℕ} (m : ℕ) {n : ℕ} {o : OpLine} {a : Answer} → phase s n ≤ phase s m
+    → (IsTrue (is_open_to_change (state s A J (front s A J o.rank o.path n)))
+    → IsTrue (is_open_to_change (state s A (J ++ m ∷ []) (front s A J o.rank o.path n))))
     → Fits told s A J n o a → Fits told s A (J ++ m ∷ []) n o a
-Fits-push_from told s A J m n o a later writes fits =
+Fits-push_from {told} {s} {A} {J} m {n} {o} {a} later writes fits =
     let same = front-push s A J o.rank o.path n m later in
     record {
       opened = fits.opened;
@@ -132,13 +135,15 @@ Fits-push_from told s A J m n o a later writes fits =
     }
 
 -- a commit of no earlier phase, at the journal's end, leaves it fitting where its front was within the journal
-pub Fits-push : (told : List ℕ) (s : Job) (A : Answering) (J : List ℕ) (m n : ℕ) (o : OpLine) (a : Answer) → phase s n ≤ phase s m → front s A J o.rank o.path n ≤ length J
-    → Fits told s A J n o a → Fits told s A (J ++ m ∷ []) n o a
-Fits-push told s A J m n o a later within fits =
-    Fits-push_from told s A J m n o a later (λ may. subst (λ f. IsTrue (is_open_to_change f)) (sym (state_in-push s (bytes_of s) A J m (front s A J o.rank o.path n) within)) may) fits
+pub Fits-push : {told : List ℕ} {s : Job} {A : Answering} {J : List ℕ} (m : ℕ) {n : ℕ} {o : OpLine} {a : Answer} → phase s n ≤ phase s m
+    → front s A J o.rank o.path n ≤ length J → Fits told s A J n o a → Fits told s A (J ++ m ∷ []) n o a
+Fits-push {told} {s} {A} {J} m {n} {o} {a} later within fits =
+    Fits-push_from m later (λ may. subst (λ f. IsTrue (is_open_to_change f))
+    (sym (state_in-push s (bytes_of s) A J m (front s A J o.rank o.path n) within)) may) fits
 
 -- both at once
-pub Fits-grows : (told : List ℕ) (s : Job) (A B : Answering) (J : List ℕ) (m n : ℕ) (o : OpLine) (a : Answer) → AgreeBefore s o.rank o.path A B n → SamePending s A B J
+pub Fits-grows : {told : List ℕ} {s : Job} {A : Answering} (B : Answering) {J : List ℕ} (m : ℕ) {n : ℕ} {o : OpLine} {a : Answer}
+    → AgreeBefore s o.rank o.path A B n → SamePending s A B J
     → phase s n ≤ phase s m → front s A J o.rank o.path n ≤ length J → Fits told s A J n o a → Fits told s B (J ++ m ∷ []) n o a
-Fits-grows told s A B J m n o a h same later within fits =
-    Fits-push told s B J m n o a later (subst (λ k. k ≤ length J) (front-agree s A B J o.rank o.path n h) within) (Fits-agree told s A B J n o a h same fits)
+Fits-grows {told} {s} {A} B {J} m {n} {o} {a} h same later within fits =
+    Fits-push m later (subst (λ k. k ≤ length J) (front-agree s A B J o.rank o.path n h) within) (Fits-agree B h same fits)

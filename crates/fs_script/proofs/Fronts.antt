@@ -1,11 +1,8 @@
 -- Phases rise with the lines, and a front doesn't change while the journal grows by lines of no earlier phase.
-use Rattle.std.proofs.Common.{◌≡◌, ℕ, ◌+◌, ◌-◌, ◌≤◌, List, [], ◌∷◌, ◌++◌, length, max, cond, nat_lt, ap, ◌∙◌, le-ltb, arith}
-use Rattle.std.proofs.lemmas.List.Sums.{sum_by_push, count_by-le-length}
-use Rattle.fs_script.specs.Job.{Job, is_barrier, phase}
-use Rattle.fs_script.specs.Pending.{Answering}
-use Rattle.fs_script.specs.Front.{seen, of_earlier_phases, front}
-use Rattle.fs_script.specs.Growth.{AgreeBefore}
-use Rattle.fs_script.proofs.Agreement.{seen-agree}
+use Rattle.fs_types.proofs.Common.{◌≡◌, ℕ, ◌+◌, ◌-◌, ◌≤◌, List, [], ◌∷◌, ◌++◌, length, max, cond, nat_lt, ap, ◌∙◌, le-ltb, arith}
+use Rattle.fs_types.proofs.Common.{sum_by_push, count_by-le-length}
+use Rattle.fs_script.specs.Vocabulary.{Job, is_barrier, phase, Answering, seen, of_earlier_phases, front, AgreeBefore}
+use Rattle.fs_script.proofs.Agreement.{over_answers-agree}
 use Rattle.fs_script.proofs.PlainLists.{count_by-take-rises}
 
 pub phase-rises : (s : Job) (m n : ℕ) → m ≤ n → phase s m ≤ phase s n
@@ -15,13 +12,16 @@ pub of_earlier_phases-le-length : (s : Job) (n : ℕ) (J : List ℕ) → of_earl
 of_earlier_phases-le-length s n J = count_by-le-length (λ m. nat_lt (phase s m) (phase s n)) J
 
 -- a line of no earlier phase than n, put at the end, is none of the earlier phases
-pub of_earlier_phases-push : (s : Job) (n m : ℕ) (J : List ℕ) → phase s n ≤ phase s m → of_earlier_phases s n (J ++ m ∷ []) ≡ of_earlier_phases s n J
+pub of_earlier_phases-push : (s : Job) (n m : ℕ) (J : List ℕ) → phase s n ≤ phase s m
+    → of_earlier_phases s n (J ++ m ∷ []) ≡ of_earlier_phases s n J
 of_earlier_phases-push s n m J le =
     let e = le-ltb (phase s m) (phase s n) le in
     sum_by_push (λ k. cond (nat_lt (phase s k) (phase s n)) 1 0) J m ∙ (ap (λ b. of_earlier_phases s n J + cond b 1 0) e ∙ omega arith)
 
-pub front-push : (s : Job) (A : Answering) (J : List ℕ) (r : ℕ) (p : List ℕ) (n m : ℕ) → phase s n ≤ phase s m → front s A (J ++ m ∷ []) r p n ≡ front s A J r p n
+pub front-push : (s : Job) (A : Answering) (J : List ℕ) (r : ℕ) (p : List ℕ) (n m : ℕ) → phase s n ≤ phase s m
+    → front s A (J ++ m ∷ []) r p n ≡ front s A J r p n
 front-push s A J r p n m le = ap (λ k. max (seen s A r p n) k) (of_earlier_phases-push s n m J le)
 
-pub front-agree : (s : Job) (A B : Answering) (J : List ℕ) (r : ℕ) (p : List ℕ) (n : ℕ) → AgreeBefore s r p A B n → front s A J r p n ≡ front s B J r p n
-front-agree s A B J r p n h = ap (λ k. max k (of_earlier_phases s n J)) (seen-agree s r p A B n h)
+pub front-agree : (s : Job) (A B : Answering) (J : List ℕ) (r : ℕ) (p : List ℕ) (n : ℕ) → AgreeBefore s r p A B n
+    → front s A J r p n ≡ front s B J r p n
+front-agree s A B J r p n h = ap (λ k. max k (of_earlier_phases s n J)) (over_answers-agree _ _ s r p A B n h)

@@ -1,16 +1,8 @@
 -- The lines of a legal journal: operations of the job, no two of them one, and so no more than the job has lines.
-use Rattle.std.proofs.Common.{◌≡◌, ℕ, suc, ◌+◌, ◌<◌, ◌≤◌, ◌==◌, List, length, get_or, Option, Some, None, ap, ◌∙◌, refl, All, arith}
-use Rattle.std.specs.List.{IsDistinct}
-use Rattle.std.proofs.lemmas.Bool.{eqb-true, ne_eqb}
-use Rattle.std.proofs.lemmas.Option.{none-some, slice_get-get_or}
-use Rattle.std.proofs.lemmas.List.Elements.{All-contains}
-use Rattle.std.proofs.lemmas.Map.Keys.{IsDistinct-from_apart}
-use Rattle.std.proofs.lemmas.Map.Steps.{length-le_from_distinct_below}
-use Rattle.std.proofs.lemmas.Map.Views.{Contains-from_any}
-use Rattle.fs_script.specs.declared.line.OpLine.{OpLine}
-use Rattle.fs_script.specs.Job.{Job, op_at}
-use Rattle.fs_script.specs.Pending.{Answering}
-use Rattle.fs_script.specs.Journal.{commit_in, IsLegalJournal}
+use Rattle.fs_types.proofs.Common.{◌≡◌, ℕ, suc, ◌+◌, ◌<◌, ◌≤◌, ◌==◌, List, length, get_or, Option, Some, None, ap, ◌∙◌, refl, All, arith}
+use Rattle.fs_types.proofs.Common.{IsDistinct, eqb-true, ne_eqb, none-some, slice_get-get_or, All-contains, IsDistinct-from_apart}
+use Rattle.fs_types.proofs.Common.{length-le_from_distinct_below, Contains-from_any}
+use Rattle.fs_script.specs.Vocabulary.{OpLine, Job, op_at, Answering, commit_in, IsLegalJournal}
 use Rattle.fs_script.proofs.Jobs.{op_at-within}
 
 module _ (s : Job) (A : Answering) (p : List ℕ) where

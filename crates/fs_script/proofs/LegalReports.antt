@@ -1,26 +1,14 @@
 -- A legal report of a job is printable, where the bytes that it shows are compared.
-use Rattle.std.proofs.Common.{◌≡◌, ℕ, ◌+◌, ◌^◌, ◌<◌, true, false, List, [], ◌∷◌, length, map, get_or, take, Some, IsSome, is_some, None, bytes_eq, Ordering, Less, Equal, Greater, refl, sym, ap, ◌∙◌, subst, All, arith}
-use Rattle.std.specs.List.{AllByRecursion, range_with_len}
-use Rattle.std.specs.Ordering.{nat_cmp, is_lt, is_eq}
-use Rattle.std.specs.Cmp.Lexicographic.{slice_cmp}
-use Rattle.std.proofs.lemmas.Bool.{cond-true, cond-false}
-use Rattle.std.proofs.lemmas.List.{length-map}
-use Rattle.std.proofs.lemmas.List.Elements.{All-from_recursion, recursion_from_All, All-weaker, All-contains_itself, filter_passes}
-use Rattle.std.proofs.lemmas.Map.Text.{is_eq-slice_cmp}
-use Rattle.std.proofs.lemmas.Option.{same_Some}
-use Rattle.std.proofs.lemmas.Slice.Eq.{bytes_eq-Decides}
-use Rattle.fs_types.specs.declared.answer.Answer.{Answer}
-use Rattle.fs_types.specs.declared.file_state.FileState.{FileState}
-use Rattle.fs_types.specs.PathText.{IsPath}
-use Rattle.fs_types.specs.PlainFile.{File}
-use Rattle.fs_types.proofs.CallerLemmas.{answer_at-each}
-use Rattle.fs_script.specs.declared.limits.TheConstants.{DIGEST_LIMIT}
-use Rattle.fs_script.specs.Job.{Job, op_at, Names}
-use Rattle.fs_script.specs.Effect.{state}
-use Rattle.fs_script.specs.Fits.{AreTold}
+use Rattle.fs_types.proofs.Common.{◌≡◌, ℕ, ◌+◌, ◌^◌, ◌<◌, true, false, List, [], ◌∷◌, length, map, get_or, take, Some, IsSome, is_some}
+use Rattle.fs_types.proofs.Common.{None, bytes_eq, Ordering, Less, Equal, Greater, refl, sym, ap, ◌∙◌, subst, All, arith, AllByRecursion}
+use Rattle.fs_types.proofs.Common.{range_with_len, nat_cmp, is_lt, is_eq, slice_cmp, cond-true, cond-false, length-map, All-from_recursion}
+use Rattle.fs_types.proofs.Common.{recursion_from_All, All-weaker, All-contains_itself, filter_passes, is_eq-slice_cmp, same_Some}
+use Rattle.fs_types.proofs.Common.{bytes_eq-Decides}
+use Rattle.fs_script.specs.Vocabulary.{Answer, FileState, IsPath, File, DIGEST_LIMIT, Job, op_at, Names, state, AreTold, Report, journal_of}
+use Rattle.fs_script.specs.Vocabulary.{AreRising, file_state_of, IsLegal, answers_of, IsPrintableAnswer, IsPrintableLine}
+use Rattle.fs_script.specs.Vocabulary.{IsPrintableJournal, IsPrintableState, IsPrintableFile, IsPrintable}
 use Rattle.fs_script.specs.Grammar.{IsJob}
-use Rattle.fs_script.specs.Report.{Report, journal_of, AreRising, file_state_of, IsLegal, answers_of}
-use Rattle.fs_script.specs.Printable.{IsPrintableAnswer, IsPrintableLine, IsPrintableJournal, IsPrintableState, IsPrintableFile, IsPrintable}
+use Rattle.fs_types.proofs.CallerLemmas.{answer_at-each}
 use Rattle.fs_script.proofs.AnsweredLines.{rising-passing}
 use Rattle.fs_script.proofs.Digests.{IsDigest-md5}
 use Rattle.fs_script.proofs.FileBytes.{IsWithinLimits, IsWithinLimits-state}
@@ -48,8 +36,7 @@ found_behind j js (k ∷ ks) less found =
     (here, found_behind j js ks less.1 found.1)
 
 -- where the paths rise, each journal is that of its path
-journal_of-each : (js : List (List ℕ × List ℕ)) → AreRising (map (λ j. j.0) js)
-    → AllByRecursion (λ j. journal_of js j.0 ≡ j.1) js
+journal_of-each : (js : List (List ℕ × List ℕ)) → AreRising (map (λ j. j.0) js) → AllByRecursion (λ j. journal_of js j.0 ≡ j.1) js
 journal_of-each [] rising = tt
 journal_of-each (j ∷ js) rising =
     let here = cond-true (bytes_eq j.0 j.0) j.1 (journal_of js j.0) ((bytes_eq-Decides j.0 j.0).1 refl) in
@@ -64,8 +51,7 @@ IsPath-named s p job named = subst IsPath named.on (IsOpLine-from_job s named.li
 -- what a file is printed as
 IsPrintableState-file : (f : File ℕ) → IsWithinLimits f → IsPrintableState (file_state_of f)
 IsPrintableState-file None within = tt
-IsPrintableState-file (Some c) within =
-    record { count = omega (arith, within.length); digest = IsDigest-md5 (take DIGEST_LIMIT c.cells) }
+IsPrintableState-file (Some c) within = record { count = omega (arith, within.length); digest = IsDigest-md5 (take DIGEST_LIMIT c.cells) }
 
 module _ (told : List ℕ) (s : Job) (R : Report) (job : IsJob s) (legal : IsLegal s R told) where
   -- each answer is to an operation, and is the one that is found there
@@ -75,7 +61,7 @@ module _ (told : List ℕ) (s : Job) (R : Report) (job : IsJob s) (legal : IsLeg
       let J = journal_of R.journals op.0.path in
       let answered = legal.lines a.0 op.0 op.1 in
       let same = same_Some answered.answer a.1 (sym answered.given ∙ found) in
-      let printable = IsPrintableAnswer-fits told s (answers_of R) J a.0 op.0 answered.answer
+      let printable = IsPrintableAnswer-fits
       job all (legal.journals op.0.path) op.1 answered.fits in
       let within = op_at-within s a.0 op.0 op.1 in
       record { line = omega (arith, within.1, job.few); answer = subst IsPrintableAnswer same printable }
@@ -126,11 +112,10 @@ module _ (told : List ℕ) (s : Job) (R : Report) (job : IsJob s) (legal : IsLeg
 
 -- ---- reports
 
-pub IsPrintable-legal : (told : List ℕ) (s : Job) (R : Report) → IsJob s → AreTold s told → IsLegal s R told → IsPrintable R
-IsPrintable-legal told s R job all legal = record {
+pub IsPrintable-legal : {told : List ℕ} {s : Job} {R : Report} → IsJob s → AreTold s told → IsLegal s R told → IsPrintable R
+IsPrintable-legal {told} {s} {R} job all legal = record {
   answers = recursion_from_All IsPrintableLine R.answers (answers_are_printable told s R job legal all);
   journals = recursion_from_All IsPrintableJournal R.journals (journals_are_printable told s R job legal);
   files = recursion_from_All IsPrintableFile R.files (files_are_printable told s R job legal);
-  as_many =
-      sym (length-map R.journals (λ j. j.0)) ∙ (ap length (sym legal.shape.files) ∙ length-map R.files (λ f. f.0));
+  as_many = sym (length-map R.journals (λ j. j.0)) ∙ (ap length (sym legal.shape.files) ∙ length-map R.files (λ f. f.0));
 }

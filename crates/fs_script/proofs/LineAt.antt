@@ -1,10 +1,7 @@
 -- The line of a number, by its place in the list.
-use Rattle.std.proofs.Common.{◌≡◌, ℕ, zero, suc, ◌-◌, ◌≤◌, List, length, Bor, Option, Some, None, refl, sym, ap, arith}
-use Rattle.std.specs.List.{slice_get}
-use Rattle.std.specs.Option.{option_copied}
-use Rattle.std.specs.Slice.{IsItemAt}
-use Rattle.std.proofs.lemmas.Option.{slice_get_past, slice_get_read}
-use Rattle.fs_script.specs.Job.{Job, line_at}
+use Rattle.fs_types.proofs.Common.{◌≡◌, ℕ, zero, suc, ◌-◌, ◌≤◌, List, length, Bor, Option, Some, None, refl, sym, ap, arith, slice_get}
+use Rattle.fs_types.proofs.Common.{option_copied, IsItemAt, slice_get_past, slice_get_read}
+use Rattle.fs_script.specs.Vocabulary.{Job, line_at}
 
 pub line_at_place : (s : Job) (n k : ℕ) → 2 ≤ n → k ≡ n - 2 → line_at s n ≡ slice_get s.lines k
 line_at_place s zero k le is = absurd (omega arith)

@@ -1,14 +1,12 @@
 -- Plain lists, ranges and options, in the forms that the definitions of this crate have: `AllByRecursion` and
 -- `slice_get`, where std's lemmas have `All` and `get_or`.
-use Rattle.std.proofs.Common.{◌≡◌, ℕ, zero, suc, ◌+◌, ◌≤◌, ◌<◌, Bool, true, false, List, [], ◌∷◌, ◌++◌, map, length, take, get_or, slice_get, count_by, cond, Option, Some, None, IsSome, is_some, ◌⊎◌, inl, inr, true≢false, refl, sym, ap, ◌∙◌, subst, subst₂, take-take, All, arith}
-use Rattle.std.specs.List.{AllByRecursion, filter, range_with_len}
-use Rattle.std.proofs.lemmas.Bool.{cond_both, cond-true, cases_eq, cases_order}
-use Rattle.std.proofs.lemmas.Option.{none-some, same_Some, slice_get_within, slice_get-get_or, get_or_from_slice_get}
-use Rattle.std.proofs.lemmas.List.{length-map, length_push, get_or-map, get_or_append_left}
-use Rattle.std.proofs.lemmas.List.Elements.{All-from_recursion, recursion_from_All, All-take, All-push, All-filter, filter_passes}
-use Rattle.std.proofs.lemmas.List.FromFn.{length-range_with_len, get_or-range_with_len}
-use Rattle.std.proofs.lemmas.List.Kept.{AllPairs-filter}
-use Rattle.std.proofs.lemmas.List.Sums.{sum_by-take-le}
+use Rattle.fs_types.proofs.Common.{◌≡◌, ℕ, zero, suc, ◌+◌, ◌≤◌, ◌<◌, Bool, true, false, List, [], ◌∷◌, ◌++◌, map, length, take, get_or}
+use Rattle.fs_types.proofs.Common.{slice_get, count_by, cond, Option, Some, None, IsSome, is_some, ◌⊎◌, inl, inr, true≢false, refl, sym, ap}
+use Rattle.fs_types.proofs.Common.{◌∙◌, subst, subst₂, take-take, All, arith, AllByRecursion, filter, range_with_len, cond_both, cond-true}
+use Rattle.fs_types.proofs.Common.{cases_eq, cases_order, none-some, same_Some, slice_get_within, slice_get-get_or, get_or_from_slice_get}
+use Rattle.fs_types.proofs.Common.{length-map, length_push, get_or-map, get_or_append_left, All-from_recursion, recursion_from_All}
+use Rattle.fs_types.proofs.Common.{All-take, All-push, All-filter, filter_passes, length-range_with_len, get_or-range_with_len}
+use Rattle.fs_types.proofs.Common.{AllPairs-filter, sum_by-take-le}
 
 -- ---- options
 
@@ -33,6 +31,10 @@ module _ {X : Type 0} (P : X → Type 0) where
   pub AllByRecursion-from_get : (xs : List X) → ((k : ℕ) (x : X) → slice_get xs k ≡ Some x → P x) → AllByRecursion P xs
   AllByRecursion-from_get xs each = recursion_from_All P xs (λ k d below. each k (get_or xs k d) (slice_get-get_or xs k d below))
 
+  pub AllByRecursion-weaker : (Q : X → Type 0) (xs : List X) → ((x : X) → P x → Q x) → AllByRecursion P xs → AllByRecursion Q xs
+  AllByRecursion-weaker Q [] each all = tt
+  AllByRecursion-weaker Q (x ∷ xs) each all = (each x all.0, AllByRecursion-weaker Q xs each all.1)
+
   -- of the first elements
   pub AllByRecursion-take : (n : ℕ) (xs : List X) → AllByRecursion P xs → AllByRecursion P (take n xs)
   AllByRecursion-take n xs all = recursion_from_All P (take n xs) (All-take P n xs (All-from_recursion P xs all))
@@ -48,8 +50,7 @@ module _ {X : Type 0} (P : X → Type 0) where
 -- ---- one more element at the end
 
 -- the places that were there keep their elements
-pub slice_get-push : {X : Type 0} (xs : List X) (y : X) (k : ℕ) (x : X)
-    → slice_get xs k ≡ Some x → slice_get (xs ++ y ∷ []) k ≡ Some x
+pub slice_get-push : {X : Type 0} (xs : List X) (y : X) (k : ℕ) (x : X) → slice_get xs k ≡ Some x → slice_get (xs ++ y ∷ []) k ≡ Some x
 slice_get-push xs y k x at =
     let within = slice_get_within xs k x at in
     let same = get_or_append_left xs (y ∷ []) x k within ∙ get_or_from_slice_get xs k x x at in
@@ -78,8 +79,7 @@ slice_get-push_below xs y k x below at =
 -- ---- how many pass a test
 
 -- a longer front has at least as many
-pub count_by-take-rises : {X : Type 0} (p : X → Bool) (xs : List X) (a b : ℕ) → a ≤ b
-    → count_by p (take a xs) ≤ count_by p (take b xs)
+pub count_by-take-rises : {X : Type 0} (p : X → Bool) (xs : List X) (a b : ℕ) → a ≤ b → count_by p (take a xs) ≤ count_by p (take b xs)
 count_by-take-rises p xs a b le =
     subst (λ ys. count_by p ys ≤ count_by p (take b xs)) (take-take a b xs le) (sum_by-take-le (λ x. cond (p x) 1 0) (take b xs) a)
 

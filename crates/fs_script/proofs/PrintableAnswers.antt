@@ -1,47 +1,29 @@
 -- An answer that fits a legal journal is printable, where the bytes that it shows are compared.
-use Rattle.std.proofs.Common.{Bool, ◌≡◌, ℕ, ◌^◌, ◌<◌, ◌≤◌, nat_le, List, length, drop, Option, Some, None, sym, subst, arith}
-use Rattle.std.specs.Int.{div_ceil}
-use Rattle.std.proofs.Math.Nat.{div-le_self}
-use Rattle.std.proofs.lemmas.Bool.{cond_both, leb-true}
-use Rattle.std.proofs.lemmas.List.Elements.{All-take, All-drop, recursion_from_All}
+use Rattle.fs_types.proofs.Common.{◌≡◌, ℕ, Bool, ◌^◌, ◌<◌, nat_le, List, length, drop, Option, Some, None, sym, subst, arith, div-le_self}
+use Rattle.fs_types.proofs.Common.{cond_both, leb-true, All-take, All-drop, recursion_from_All}
 use Rattle.md5.specs.Md5.{md5}
-use Rattle.fs_types.specs.declared.answer.Answer.{Answer}
-use Rattle.fs_types.specs.declared.answer.Answer.TheVariants as answers
-use Rattle.fs_types.specs.declared.answer.Body.{Body}
-use Rattle.fs_types.specs.declared.answer.Body.TheVariants as bodies
-use Rattle.fs_types.specs.declared.limits.TheConstants.{HEX_LIMIT}
-use Rattle.fs_script.specs.declared.limits.TheConstants.{TRANSFER_LIMIT}
-use Rattle.fs_types.specs.Overwrite.{shown}
-use Rattle.fs_types.specs.PlainFile.{File}
-use Rattle.fs_types.proofs.CallerLemmas.{length-shown}
-use Rattle.fs_script.specs.declared.line.OpLine.{OpLine}
-use Rattle.fs_script.specs.declared.line.Op.{Op}
-use Rattle.fs_script.specs.declared.line.Op.TheVariants as ops
-use Rattle.fs_script.specs.Job.{Job, op_at}
-use Rattle.fs_script.specs.Payload.{data_bytes, brought}
-use Rattle.fs_script.specs.Operations.{Range, asked}
-use Rattle.fs_script.specs.Pending.{Answering}
-use Rattle.fs_script.specs.Effect.{state}
-use Rattle.fs_script.specs.Fits.{IsSized, AreTold, LineView, line_view, Accepts, ShowsAsked, Fits, body_of}
-use Rattle.fs_script.specs.Journal.{IsLegalJournal}
+use Rattle.fs_script.specs.Vocabulary.{Answer, Body, HEX_LIMIT, shown, File, OpLine, Op, Job, op_at, brought, Range, asked, Answering}
+use Rattle.fs_script.specs.Vocabulary.{state, AreTold, LineView, line_view, Accepts, ShowsAsked, Fits, body_of, IsLegalJournal}
+use Rattle.fs_script.specs.Vocabulary.{IsPrintableBody, IsPrintableAnswer}
 use Rattle.fs_script.specs.Grammar.{IsJob, IsOp}
-use Rattle.fs_script.specs.Printable.{IsPrintableBody, IsPrintableAnswer}
+use Rattle.fs_types.proofs.CallerLemmas.{length-shown}
 use Rattle.fs_script.proofs.Digests.{IsDigest-md5}
 use Rattle.fs_script.proofs.FileBytes.{AllBytes, IsWithinLimits, IsWithinLimits-state}
 use Rattle.fs_script.proofs.Jobs.{IsOpLine-from_job, length-data}
 use Rattle.fs_script.proofs.JournalLines.{length-journal}
+use Rattle.fs_types.specs.declared.answer.Answer.TheVariants as answers
+use Rattle.fs_types.specs.declared.answer.Body.TheVariants as bodies
+use Rattle.fs_script.specs.declared.line.Op.TheVariants as ops
+use Rattle.fs_script.specs.Fits.{IsSized}
+use Rattle.fs_script.specs.Payload.{data_bytes}
 
 -- ---- slots
-
-parts_are_few : (len chunk slots : ℕ) → len ≤ TRANSFER_LIMIT → slots ≡ div_ceil len chunk → slots < 2 ^ 32
-parts_are_few len chunk slots short is = omega (arith, div-le_self len chunk)
 
 -- no write fills more slots than it has bytes
 slots_are_few : (w : LineView) (op : Op) (slots : ℕ) → IsOp op → Accepts w (brought op) slots → slots < 2 ^ 32
 slots_are_few w ops.Create slots is accepts = absurd accepts
 slots_are_few w ops.Open slots is accepts = absurd accepts
-slots_are_few w (ops.Write off text) slots is accepts =
-    parts_are_few (length (data_bytes text)) w.chunk slots (length-data text is.1) accepts.2
+slots_are_few w (ops.Write off text) slots is accepts = omega (arith, length-data text is.1, div-le_self (length (data_bytes text)) w.chunk)
 slots_are_few w ops.Sync slots is accepts = absurd accepts
 slots_are_few w (ops.Read off len) slots is accepts = absurd accepts
 slots_are_few w ops.Size slots is accepts = absurd accepts
@@ -52,10 +34,7 @@ slots_are_few w ops.Size slots is accepts = absurd accepts
 IsPrintableBody-body_of : (bytes : List ℕ) → AllBytes bytes → IsPrintableBody (body_of bytes)
 IsPrintableBody-body_of bytes are =
     cond_both (nat_le (length bytes) HEX_LIMIT) (bodies.Hex bytes) (bodies.Md5 (md5 bytes)) IsPrintableBody
-    (λ short. record {
-      size = leb-true (length bytes) HEX_LIMIT short;
-      bytes = recursion_from_All (λ b. b < 256) bytes are;
-    })
+    (λ short. record { size = leb-true (length bytes) HEX_LIMIT short; bytes = recursion_from_All (λ b. b < 256) bytes are })
     (λ _. IsDigest-md5 bytes)
 
 -- a range of a file has no more bytes than the file
@@ -79,18 +58,16 @@ size_is_printable (Some f) n frozen within sized = omega (arith, within.length, 
 -- ---- each answer
 
 -- versions count the lines of a journal, which are no more than those of the job
-pub IsPrintableAnswer-fits : (told : List ℕ) (s : Job) (A : Answering) (J : List ℕ) (n : ℕ) (o : OpLine) (a : Answer)
-    → IsJob s → AreTold s told → IsLegalJournal s A o.path J → op_at s n ≡ Some o
-    → Fits told s A J n o a → IsPrintableAnswer a
-IsPrintableAnswer-fits told s A J n o a job all legal is fits = by a fits
+pub IsPrintableAnswer-fits : {told : List ℕ} {s : Job} {A : Answering} {J : List ℕ} {n : ℕ} {o : OpLine} {a : Answer}
+    → IsJob s → AreTold s told → IsLegalJournal s A o.path J → op_at s n ≡ Some o → Fits told s A J n o a → IsPrintableAnswer a
+IsPrintableAnswer-fits {told} {s} {A} {J} {n} {o} {a} job all legal is fits = by a fits
   where
     few : length J < 2 ^ 17
     few = omega (arith, length-journal s A o.path J legal, job.few)
 
     by : (b : Answer) → Fits told s A J n o b → IsPrintableAnswer b
     by (answers.Done v) fit = omega (arith, fit.version.length, few)
-    by (answers.Wrote slots) fit =
-        slots_are_few (line_view s A J n o) o.op slots (IsOpLine-from_job s n o job is).op fit.answer
+    by (answers.Wrote slots) fit = slots_are_few (line_view s A J n o) o.op slots (IsOpLine-from_job s n o job is).op fit.answer
     by (answers.Staged v m slots) fit = absurd fit.answer
     by (answers.Sized v m frozen) fit =
         (omega (arith, fit.version.length, few), size_is_printable (state s A J v) m frozen (IsWithinLimits-state s job A J v) fit.answer.1)

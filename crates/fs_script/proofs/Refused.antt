@@ -1,16 +1,11 @@
 -- What the definitions refuse, at the script of five lines: a read of too old a version, a read with one byte changed,
 -- and journals with a line twice, without a line, or out of order.
-use Rattle.std.proofs.Common.{◌≡◌, ℕ, zero, suc, ◌<◌, [], ◌∷◌, slice_index_or, refl, sym, inl, true≢false, arith}
-use Rattle.std.specs.Prelude.{codes}
-use Rattle.std.proofs.lemmas.Option.{same_Some}
+use Rattle.fs_types.proofs.Common.{◌≡◌, ℕ, zero, suc, ◌<◌, [], ◌∷◌, slice_index_or, refl, sym, inl, true≢false, arith, codes, same_Some}
+use Rattle.fs_script.specs.Vocabulary.{answer_at, Text, Answering, IsLegalJournal}
+use Rattle.fs_script.proofs.FiveLines.{path_a, on_a, five_lines, five_answers, Fits-five}
 use Rattle.fs_types.specs.declared.answer.Answer.TheVariants as answers
 use Rattle.fs_types.specs.declared.answer.Body.TheVariants as bodies
-use Rattle.fs_types.specs.AnswerList.{answer_at}
 use Rattle.fs_script.specs.declared.line.Op.TheVariants as ops
-use Rattle.fs_script.specs.declared.line.Data.TheVariants.{Text}
-use Rattle.fs_script.specs.Pending.{Answering}
-use Rattle.fs_script.specs.Journal.{IsLegalJournal}
-use Rattle.fs_script.proofs.FiveLines.{path_a, on_a, five_lines, five_answers, Fits-five}
 
 -- the client saw version 2, so it can't find no file
 no_file_refused : Fits-five 5 (on_a (ops.Read 1 3)) (answers.NoEnt 0) → ⊥

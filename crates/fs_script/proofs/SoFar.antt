@@ -1,29 +1,24 @@
 -- A job stays legal so far as its next answer comes: one that commits nothing, or one whose line comes to the end of its path's journal.
-use Rattle.std.proofs.Common.{◌≡◌, ◌≢◌, ℕ, suc, ◌≤◌, true, List, [], ◌∷◌, ◌++◌, length, Some, None, is_some, bytes_eq, true≢false, refl, sym, ap, ◌∙◌, subst, inl, inr, arith}
-use Rattle.std.proofs.lemmas.Bool.{cases_eq, cases_Bool, cond-true, cond-false, false_from_ne_true}
-use Rattle.std.proofs.lemmas.Option.{none-some, same_Some}
-use Rattle.std.proofs.lemmas.Slice.Eq.{bytes_eq-Decides}
-use Rattle.fs_types.specs.declared.answer.Answer.{Answer}
-use Rattle.fs_script.specs.declared.line.OpLine.{OpLine}
-use Rattle.fs_script.specs.Job.{Job, op_at, rank_in, phase}
-use Rattle.fs_script.specs.Pending.{Answering, pending, pending_at}
-use Rattle.fs_script.specs.Front.{front}
-use Rattle.fs_script.specs.Effect.{is_enabled, state}
-use Rattle.fs_script.specs.Fits.{Fits}
-use Rattle.fs_script.specs.Journal.{commit_by, commit_in, committed, enabled_in, IsLegalJournal}
-use Rattle.fs_script.specs.Growth.{AddsAnswer, IsOfNoEarlierPhase, AllFit}
-use Rattle.fs_script.specs.SoFar.{Journals, IsLegalSoFar, IsNextAnswer, Pushes}
+use Rattle.fs_types.proofs.Common.{◌≡◌, ◌≢◌, ℕ, suc, ◌≤◌, true, List, [], ◌∷◌, ◌++◌, length, Some, None, is_some, bytes_eq, true≢false}
+use Rattle.fs_types.proofs.Common.{refl, sym, ap, ◌∙◌, subst, inl, inr, arith, cases_eq, cases_Bool, cond-true, cond-false}
+use Rattle.fs_types.proofs.Common.{false_from_ne_true, none-some, same_Some, bytes_eq-Decides}
+use Rattle.fs_script.specs.Vocabulary.{Answer, OpLine, Job, op_at, rank_in, phase, Answering, pending, pending_at, front, is_enabled, state}
+use Rattle.fs_script.specs.Vocabulary.{Fits, commit_by, commit_in, committed, enabled_in, IsLegalJournal, AddsAnswer, IsOfNoEarlierPhase}
+use Rattle.fs_script.specs.Vocabulary.{AllFit, Journals, IsLegalSoFar, IsNextAnswer, Pushes}
 use Rattle.fs_script.proofs.FitsGrows.{Fits-agree, Fits-grows}
-use Rattle.fs_script.proofs.JournalGrows.{pending_at-next, AgreeBefore-next, AgreeBefore-answered, pending_at-in_journal, answered-in_journal, IsLegalJournal-none, IsLegalJournal-kept, IsLegalJournal-commit}
+use Rattle.fs_script.proofs.JournalGrows.{pending_at-next, AgreeBefore-next, AgreeBefore-answered, pending_at-in_journal}
+use Rattle.fs_script.proofs.JournalGrows.{answered-in_journal, IsLegalJournal-none, IsLegalJournal-kept, IsLegalJournal-commit}
 use Rattle.fs_script.proofs.InReach.{front-le-length_fit}
 use Rattle.fs_script.proofs.PlainLists.{AllByRecursion-from_get, AllByRecursion-push}
 
 -- ---- what a line commits, by its operation and answer
 
 -- to its own path
-pub committed-own : (s : Job) (A : Answering) (n : ℕ) (o : OpLine) → op_at s n ≡ Some o → committed s A o.path n ≡ commit_by o.op (pending s A o.rank o.path n) (A n)
+pub committed-own : (s : Job) (A : Answering) (n : ℕ) (o : OpLine) → op_at s n ≡ Some o
+    → committed s A o.path n ≡ commit_by o.op (pending s A o.rank o.path n) (A n)
 committed-own s A n o is =
-    ap (commit_in s A o.path n) is ∙ cond-true (bytes_eq o.path o.path) (commit_by o.op (pending s A o.rank o.path n) (A n)) None ((bytes_eq-Decides o.path o.path).1 refl)
+    ap (commit_in s A o.path n) is ∙ cond-true (bytes_eq o.path o.path) (commit_by o.op (pending s A o.rank o.path n) (A n)) None
+    ((bytes_eq-Decides o.path o.path).1 refl)
 
 -- and to another
 pub committed-off : (s : Job) (A : Answering) (n : ℕ) (o : OpLine) (p : List ℕ) → op_at s n ≡ Some o → o.path ≢ p → committed s A p n ≡ None
@@ -33,7 +28,8 @@ committed-off s A n o p is off =
 
 -- ---- before any answer
 
-pub IsLegalSoFar-none : (told : List ℕ) (s : Job) (A : Answering) (journals : Journals) → ((n : ℕ) → A n ≡ None) → ((p : List ℕ) → journals p ≡ []) → IsLegalSoFar told s A journals
+pub IsLegalSoFar-none : (told : List ℕ) (s : Job) (A : Answering) (journals : Journals) → ((n : ℕ) → A n ≡ None)
+    → ((p : List ℕ) → journals p ≡ []) → IsLegalSoFar told s A journals
 IsLegalSoFar-none told s A journals none empty = record {
   legal = λ p. subst (λ J. IsLegalJournal s A p J) (sym (empty p)) (IsLegalJournal-none s A p none);
   fit = λ p. record { each = λ n o a is on given. absurd (none-some a (sym (none n) ∙ given)) };
@@ -42,34 +38,38 @@ IsLegalSoFar-none told s A journals none empty = record {
 -- ---- the next answer
 
 -- a line answered is the new one, or was answered before
-answered-cases : {C : Type 0} (A B : Answering) (m n : ℕ) (a b : Answer) → AddsAnswer A n a B → B m ≡ Some b → (m ≡ n → a ≡ b → C) → (A m ≡ Some b → C) → C
-answered-cases A B m n a b adds given new old =
+answered-cases : {C : Type 0} {A B : Answering} (m : ℕ) {n : ℕ} {a : Answer} (b : Answer) → AddsAnswer A n a B → B m ≡ Some b
+    → (m ≡ n → a ≡ b → C) → (A m ≡ Some b → C) → C
+answered-cases {B} m {n} {a} b adds given new old =
     elim (cases_eq m n) [
       | inl is ↦ new is (same_Some a b (sym adds.added ∙ (ap B (sym is) ∙ given)))
       | inr other ↦ old (sym (adds.others m other) ∙ given)
     ]
 
 -- the answers on a path go on fitting its journal, where the new one, if it is on it, fits
-AllFit-kept : (told : List ℕ) (s : Job) (A B : Answering) (J : List ℕ) (n : ℕ) (o : OpLine) (a : Answer) (p : List ℕ) → IsNextAnswer s A n o a B → IsLegalJournal s A p J → AllFit told s A p J
-    → (o.path ≡ p → Fits told s A J n o a) → AllFit told s B p J
-AllFit-kept told s A B J n o a p here legal fit new =
-    let same = pending_at-in_journal s A B p J n a here.adds here.next legal in
+AllFit-kept : {told : List ℕ} {s : Job} {A B : Answering} {J : List ℕ} {n : ℕ} {o : OpLine} {a : Answer} {p : List ℕ}
+    → IsNextAnswer s A n o a B → IsLegalJournal s A p J → AllFit told s A p J → (o.path ≡ p → Fits told s A J n o a) → AllFit told s B p J
+AllFit-kept {told} {s} {A} {B} {J} {n} {o} {a} {p} here legal fit new =
+    let same = pending_at-in_journal here.adds here.next legal in
     record {
-      each = λ m l b is on given. answered-cases A B m n a b here.adds given
+      each = λ m l b is on given. answered-cases m b here.adds given
           (λ now gives.
           let does : o ≡ l = same_Some o l (sym here.op ∙ (ap (op_at s) (sym now) ∙ is)) in
           let fits = new (ap (λ x. x.path) does ∙ on) in
-          let kept = Fits-agree told s A B J n o a (AgreeBefore-next s o.rank o.path A B n n a here.adds (omega arith)) same fits in
-          subst (λ k. Fits told s B J k l b) (sym now) (subst (λ x. Fits told s B J n x b) does (subst (λ x. Fits told s B J n o x) gives kept)))
-          (λ before. Fits-agree told s A B J m l b (AgreeBefore-answered s l.path A B m n a b l.rank here.adds here.next before (ap rank_in is)) same (fit.each m l b is on before));
+          let kept = Fits-agree B (AgreeBefore-next s o.rank o.path n here.adds (omega arith)) same fits in
+          subst (λ k. Fits told s B J k l b) (sym now) (subst (λ x. Fits told s B J n x b) does
+          (subst (λ x. Fits told s B J n o x) gives kept)))
+          (λ before. Fits-agree B (AgreeBefore-answered l.path m b l.rank here.adds here.next before (ap rank_in is)) same
+          (fit.each m l b is on before));
     }
 
 -- an answer that commits nothing and fits
-pub IsLegalSoFar-kept : (told : List ℕ) (s : Job) (A B : Answering) (journals : Journals) (n : ℕ) (o : OpLine) (a : Answer) → IsNextAnswer s A n o a B → IsLegalSoFar told s A journals
+pub IsLegalSoFar-kept : {told : List ℕ} {s : Job} {A B : Answering} {journals : Journals} {n : ℕ} {o : OpLine} {a : Answer}
+    → IsNextAnswer s A n o a B → IsLegalSoFar told s A journals
     → commit_by o.op (pending s B o.rank o.path n) (B n) ≡ None → Fits told s A (journals o.path) n o a → IsLegalSoFar told s B journals
-IsLegalSoFar-kept told s A B journals n o a here so_far none fits = record {
-  legal = λ p. IsLegalJournal-kept s A B p (journals p) n a here.adds here.next (commits_nothing p) (so_far.legal p);
-  fit = λ p. AllFit-kept told s A B (journals p) n o a p here (so_far.legal p) (so_far.fit p) (λ on. subst (λ q. Fits told s A (journals q) n o a) on fits);
+IsLegalSoFar-kept {told} {s} {A} {B} {journals} {n} {o} {a} here so_far none fits = record {
+  legal = λ p. IsLegalJournal-kept here.adds here.next (commits_nothing p) (so_far.legal p);
+  fit = λ p. AllFit-kept here (so_far.legal p) (so_far.fit p) (λ on. subst (λ q. Fits told s A (journals q) n o a) on fits);
 }
   where
     commits_nothing : (p : List ℕ) → committed s B p n ≡ None
@@ -80,32 +80,36 @@ IsLegalSoFar-kept told s A B journals n o a here so_far none fits = record {
         ]
 
 -- the answers on the path of a commit go on fitting, and its own fits in the longer journal
-AllFit-commit : (told : List ℕ) (s : Job) (A B : Answering) (J : List ℕ) (n : ℕ) (o : OpLine) (a : Answer) → IsNextAnswer s A n o a B → IsLegalJournal s A o.path J → AllFit told s A o.path J
-    → Fits told s A (J ++ n ∷ []) n o a → AllFit told s B o.path (J ++ n ∷ [])
-AllFit-commit told s A B J n o a here legal fit new =
-    let same = pending_at-in_journal s A B o.path J n a here.adds here.next legal in
-    let longer = AllByRecursion-push (λ m. pending_at s A m ≡ pending_at s B m) J n same (pending_at-next s A B n a here.adds) in
+AllFit-commit : {told : List ℕ} {s : Job} {A B : Answering} {J : List ℕ} {n : ℕ} {o : OpLine} {a : Answer} → IsNextAnswer s A n o a B
+    → IsLegalJournal s A o.path J → AllFit told s A o.path J → Fits told s A (J ++ n ∷ []) n o a → AllFit told s B o.path (J ++ n ∷ [])
+AllFit-commit {told} {s} {A} {B} {J} {n} {o} {a} here legal fit new =
+    let same = pending_at-in_journal here.adds here.next legal in
+    let longer = AllByRecursion-push (λ m. pending_at s A m ≡ pending_at s B m) J n same (pending_at-next s here.adds) in
     record {
-      each = λ m l b is on given. answered-cases A B m n a b here.adds given
+      each = λ m l b is on given. answered-cases m b here.adds given
           (λ now gives.
           let does : o ≡ l = same_Some o l (sym here.op ∙ (ap (op_at s) (sym now) ∙ is)) in
-          let kept = Fits-agree told s A B (J ++ n ∷ []) n o a (AgreeBefore-next s o.rank o.path A B n n a here.adds (omega arith)) longer new in
-          subst (λ k. Fits told s B (J ++ n ∷ []) k l b) (sym now) (subst (λ x. Fits told s B (J ++ n ∷ []) n x b) does (subst (λ x. Fits told s B (J ++ n ∷ []) n o x) gives kept)))
+          let kept = Fits-agree B (AgreeBefore-next s o.rank o.path n here.adds (omega arith)) longer new in
+          subst (λ k. Fits told s B (J ++ n ∷ []) k l b) (sym now)
+          (subst (λ x. Fits told s B (J ++ n ∷ []) n x b) does (subst (λ x. Fits told s B (J ++ n ∷ []) n o x) gives kept)))
           (λ before.
-          let within = subst (λ q. front s A J l.rank q m ≤ length J) (sym on) (front-le-length_fit told s A J l.rank o.path m fit) in
-          Fits-grows told s A B J n m l b (AgreeBefore-answered s l.path A B m n a b l.rank here.adds here.next before (ap rank_in is)) same
+          let within = subst (λ q. front s A J l.rank q m ≤ length J) (sym on) (front-le-length_fit l.rank m fit) in
+          Fits-grows B n (AgreeBefore-answered l.path m b l.rank here.adds here.next before (ap rank_in is)) same
           (here.phases m (ap is_some before)) within (fit.each m l b is on before));
     }
 
 -- an answer that commits its line, which is enabled, and fits in the journal with the line at its end
-pub IsLegalSoFar-commit : (told : List ℕ) (s : Job) (A B : Answering) (journals after : Journals) (n : ℕ) (o : OpLine) (a : Answer) → IsNextAnswer s A n o a B → IsLegalSoFar told s A journals → Pushes journals o.path n after
-    → commit_by o.op (pending s B o.rank o.path n) (B n) ≡ Some (suc (length (journals o.path))) → is_enabled o.op (state s A (journals o.path) (length (journals o.path))) ≡ true
+pub IsLegalSoFar-commit : {told : List ℕ} {s : Job} {A B : Answering} {journals after : Journals} {n : ℕ} {o : OpLine} {a : Answer}
+    → IsNextAnswer s A n o a B → IsLegalSoFar told s A journals → Pushes journals o.path n after
+    → commit_by o.op (pending s B o.rank o.path n) (B n) ≡ Some (suc (length (journals o.path)))
+    → is_enabled o.op (state s A (journals o.path) (length (journals o.path))) ≡ true
     → Fits told s A (journals o.path ++ n ∷ []) n o a → IsLegalSoFar told s B after
-IsLegalSoFar-commit told s A B journals after n o a here so_far pushes commits enabled fits = record {
+IsLegalSoFar-commit {told} {s} {A} {B} {journals} {after} {n} {o} {a} here so_far pushes commits enabled fits = record {
   legal = λ p. at p (λ J. IsLegalJournal s B p J) (λ on. subst (λ q. IsLegalJournal s B q (journals q ++ n ∷ [])) on legal_here)
-      (λ off. IsLegalJournal-kept s A B p (journals p) n a here.adds here.next (committed-off s B n o p here.op off) (so_far.legal p));
-  fit = λ p. at p (λ J. AllFit told s B p J) (λ on. subst (λ q. AllFit told s B q (journals q ++ n ∷ [])) on (AllFit-commit told s A B (journals o.path) n o a here (so_far.legal o.path) (so_far.fit o.path) fits))
-      (λ off. AllFit-kept told s A B (journals p) n o a p here (so_far.legal p) (so_far.fit p) (λ on. absurd (off on)));
+      (λ off. IsLegalJournal-kept here.adds here.next (committed-off s B n o p here.op off) (so_far.legal p));
+  fit = λ p. at p (λ J. AllFit told s B p J) (λ on. subst (λ q. AllFit told s B q (journals q ++ n ∷ [])) on
+      (AllFit-commit here (so_far.legal o.path) (so_far.fit o.path) fits))
+      (λ off. AllFit-kept here (so_far.legal p) (so_far.fit p) (λ on. absurd (off on)));
 }
   where
     at : (p : List ℕ) (P : List ℕ → Type 0) → (o.path ≡ p → P (journals p ++ n ∷ [])) → (o.path ≢ p → P (journals p)) → P (after p)
@@ -120,8 +124,12 @@ IsLegalSoFar-commit told s A B journals after n o a here so_far pushes commits e
         ]
 
     later : IsOfNoEarlierPhase s n (journals o.path)
-    later = AllByRecursion-from_get (λ m. phase s m ≤ phase s n) (journals o.path) (λ k m there. here.phases m (answered-in_journal s A o.path (journals o.path) k m (so_far.legal o.path) there))
+    later = AllByRecursion-from_get (λ m. phase s m ≤ phase s n) (journals o.path)
+        (λ k m there. here.phases m (answered-in_journal k m (so_far.legal o.path) there))
 
     legal_here : IsLegalJournal s B o.path (journals o.path ++ n ∷ [])
-    legal_here = IsLegalJournal-commit s A B o.path (journals o.path) n a here.adds here.next (committed-own s B n o here.op ∙ commits)
-        (subst (λ x. enabled_in x (λ op. is_enabled op (state s A (journals o.path) (length (journals o.path)))) ≡ true) (sym here.op) enabled) later (so_far.legal o.path)
+    legal_here = IsLegalJournal-commit here.adds here.next (committed-own s B n o here.op ∙ commits)
+        (subst (λ x. enabled_in x (λ op. is_enabled op (state s A (journals o.path) (length (journals o.path)))) ≡ true) (sym here.op)
+        enabled) later (so_far.legal o.path)
+
+pub ruleset next_answers = (IsLegalSoFar-kept, IsLegalSoFar-commit)

@@ -1,15 +1,9 @@
 -- Rows of the table of answers at a path with one version, worked out by hand: what a frozen file, no file, and a file
 -- that is there allow and refuse.
-use Rattle.std.proofs.Common.{ℕ, List, [], ◌∷◌, Some, None, true, false, refl, arith}
-use Rattle.std.specs.Prelude.{codes}
-use Rattle.std.proofs.lemmas.Bool.{false≢true, true≢false}
+use Rattle.fs_types.proofs.Common.{ℕ, List, [], ◌∷◌, Some, None, true, false, refl, arith, codes, false≢true, true≢false}
+use Rattle.fs_script.specs.Vocabulary.{LONGEST_FILE, File, Op, Text, LineView, IsInTable}
 use Rattle.fs_types.specs.declared.answer.Answer.TheVariants as answers
-use Rattle.fs_types.specs.declared.limits.TheConstants.{LONGEST_FILE}
-use Rattle.fs_types.specs.PlainFile.{File}
-use Rattle.fs_script.specs.declared.line.Op.{Op}
 use Rattle.fs_script.specs.declared.line.Op.TheVariants as ops
-use Rattle.fs_script.specs.declared.line.Data.TheVariants.{Text}
-use Rattle.fs_script.specs.Fits.{LineView, IsInTable}
 
 -- line 4, which knows of the one version of its path, with this file there and these lines pending
 abbrev view : File ℕ → List ℕ → LineView

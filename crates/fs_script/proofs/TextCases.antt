@@ -1,19 +1,13 @@
 -- The texts of some reports, written out.
-use Rattle.std.proofs.Common.{◌≡◌, ℕ, List, ◌<◌, [], ◌∷◌, ◌++◌, true, false, codes, refl, arith}
-use Rattle.std.specs.Prelude.{nat_lt}
-use Rattle.std.specs.List.{list_all}
-use Rattle.std.proofs.lemmas.Bool.Decides.{nat_tests}
-use Rattle.std.proofs.lemmas.List.Elements.{All-weaker, recursion_from_All}
-use Rattle.std.proofs.lemmas.List.Sums.{AllPass-from_list_all}
 use Rattle.std.specs.Fmt.{digits}
+use Rattle.fs_types.proofs.Common.{◌≡◌, ℕ, List, ◌<◌, [], ◌∷◌, ◌++◌, true, false, codes, refl, arith, nat_lt, list_all, nat_tests}
+use Rattle.fs_types.proofs.Common.{All-weaker, recursion_from_All, AllPass-from_list_all}
+use Rattle.fs_script.specs.Vocabulary.{Report, AreBytes, IsPrintable, text, answer_line, journal_line, file_line, path_lines, line_feed}
 use Rattle.hex.proofs.OnLiterals.{hex_on_literals}
+use Rattle.fs_script.proofs.FiveLines.{path_a, five_journal}
 use Rattle.fs_types.specs.declared.answer.Answer.TheVariants as answers
 use Rattle.fs_types.specs.declared.answer.Body.TheVariants as bodies
 use Rattle.fs_types.specs.declared.file_state.FileState.TheVariants as states
-use Rattle.fs_script.specs.Report.{Report}
-use Rattle.fs_script.specs.Printable.{AreBytes, IsPrintable}
-use Rattle.fs_script.specs.Text.{text, answer_line, journal_line, file_line, path_lines, line_feed}
-use Rattle.fs_script.proofs.FiveLines.{path_a, five_journal}
 
 -- the MD5 digest of `hello`
 abbrev hello_digest : List ℕ
@@ -25,7 +19,8 @@ byte_from_test b h = grind (arith, nat_tests)
 
 -- bytes by a test
 are_bytes : (bytes : List ℕ) → list_all (λ b. nat_lt b 256) bytes ≡ true → AreBytes bytes
-are_bytes bytes h = recursion_from_All (λ b. b < 256) bytes (All-weaker (λ b. nat_lt b 256 ≡ true) (λ b. b < 256) byte_from_test bytes (AllPass-from_list_all (λ b. nat_lt b 256) bytes h))
+are_bytes bytes h = recursion_from_All (λ b. b < 256) bytes
+    (All-weaker (λ b. nat_lt b 256 ≡ true) (λ b. b < 256) byte_from_test bytes (AllPass-from_list_all (λ b. nat_lt b 256) bytes h))
 
 -- the report of the script of five lines
 abbrev five_report : Report
@@ -56,12 +51,25 @@ five_printable = record {
       record { line = omega arith; answer = omega arith },
       (
         record { line = omega arith; answer = omega arith },
-        (record { line = omega arith; answer = record { version = omega arith; count = omega arith; shown = record { size = omega arith; bytes = are_bytes (codes "ell") refl } } }, tt),
+        (
+          record {
+            line = omega arith;
+            answer = record {
+              version = omega arith;
+              count = omega arith;
+              shown = record { size = omega arith; bytes = are_bytes (codes "ell") refl };
+            };
+          },
+          tt,
+        ),
       ),
     ),
   );
   journals = (record { path = refl; lines = (omega arith, (omega arith, tt)) }, tt);
-  files = (record { path = refl; state = record { count = omega arith; digest = record { size = refl; bytes = are_bytes hello_digest refl } } }, tt);
+  files = (
+    record { path = refl; state = record { count = omega arith; digest = record { size = refl; bytes = are_bytes hello_digest refl } } },
+    tt,
+  );
   as_many = refl;
 }
 
@@ -131,7 +139,8 @@ line_of_no_file : file_line (path_a, states.Gone) ≡ codes "F /unifyfs/a none" 
 line_of_no_file = refl
 
 -- a frozen file
-line_of_frozen_file : file_line (path_a, states.Whole 5 true hello_digest) ≡ codes "F /unifyfs/a n=5 frozen=1 md5=5d41402abc4b2a76b9719d911017c592" ++ line_feed
+line_of_frozen_file : file_line (path_a, states.Whole 5 true hello_digest)
+    ≡ codes "F /unifyfs/a n=5 frozen=1 md5=5d41402abc4b2a76b9719d911017c592" ++ line_feed
 unfolding digits hex_on_literals
 line_of_frozen_file = refl
 

@@ -1,21 +1,12 @@
 -- Texts that are cut at a byte: each part is of bytes above it.
-use Rattle.std.proofs.Common.{◌≡◌, ℕ, ◌+◌, ◌^◌, ◌/◌, ◌%◌, ◌<◌, ◌≤◌, ◌==◌, true, false, ◌&&◌, List, [], ◌∷◌, ◌++◌, Some, slice_index, refl, ◌∙◌, arith, All}
-use Rattle.std.specs.Prelude.{nat_lt}
-use Rattle.std.specs.List.{list_all, slice_split}
-use Rattle.std.specs.Fmt.{decimal}
-use Rattle.std.proofs.lemmas.Bool.{and_from, eq-eqb}
-use Rattle.std.proofs.lemmas.Bool.Decides.{nat_tests}
-use Rattle.std.proofs.lemmas.Fmt.{decimal_by_steps}
-use Rattle.std.proofs.lemmas.List.Elements.{All-weaker}
-use Rattle.std.proofs.lemmas.List.Folds.{list_all-append}
-use Rattle.std.proofs.lemmas.List.Sums.{AllPass-from_list_all, list_all-from_AllPass}
-use Rattle.std.proofs.lemmas.List.Splits.{slice_split_at, slice_split_none}
+use Rattle.fs_types.proofs.Common.{◌≡◌, ℕ, ◌+◌, ◌^◌, ◌/◌, ◌%◌, ◌<◌, ◌≤◌, ◌==◌, true, false, ◌&&◌, List, [], ◌∷◌, ◌++◌, Some, slice_index}
+use Rattle.fs_types.proofs.Common.{refl, ◌∙◌, arith, All, nat_lt, list_all, slice_split, decimal, and_from, eq-eqb, nat_tests}
+use Rattle.fs_types.proofs.Common.{decimal_by_steps, All-weaker, list_all-append, AllPass-from_list_all, list_all-from_AllPass}
+use Rattle.fs_types.proofs.Common.{slice_split_at, slice_split_none}
 use Rattle.hex.specs.Hex.{encode_lower, encode_with, hex_digit_value, lower_digits}
+use Rattle.fs_script.specs.Vocabulary.{IsVisible, IsPath, AreBytes}
 use Rattle.hex.proofs.HexLemmas.{IsDigits-lower_digits}
-use Rattle.fs_types.specs.PathLaws.{IsVisible}
-use Rattle.fs_types.specs.PathText.{IsPath}
 use Rattle.fs_types.proofs.CallerLemmas.{path_is_visible}
-use Rattle.fs_script.specs.Printable.{AreBytes}
 
 -- each byte is above c
 abbrev pub AreAbove : ℕ → List ℕ → Type 0
@@ -56,7 +47,8 @@ above_lower c d b le h = grind (arith, nat_tests)
 -- and so is a text
 pub AreAbove-lower : (c d : ℕ) (xs : List ℕ) → c ≤ d → AreAbove d xs → AreAbove c xs
 AreAbove-lower c d xs le h =
-    list_all-from_AllPass (nat_lt c) xs (All-weaker (λ b. nat_lt d b ≡ true) (λ b. nat_lt c b ≡ true) (λ b. above_lower c d b le) xs (AllPass-from_list_all (nat_lt d) xs h))
+    list_all-from_AllPass (nat_lt c) xs (All-weaker (λ b. nat_lt d b ≡ true) (λ b. nat_lt c b ≡ true) (λ b. above_lower c d b le) xs
+    (AllPass-from_list_all (nat_lt d) xs h))
 
 -- a digit is above the space
 digit_above : (d : ℕ) → nat_lt 32 (48 + d) ≡ true
@@ -69,7 +61,8 @@ one_digit_above d = and_from (nat_lt 32 (48 + d)) true (digit_above d) refl
 -- the digits of a number are above the space
 pub AreAbove-decimal : (n : ℕ) → n < 2 ^ 64 → AreAbove 32 (decimal n)
 AreAbove-decimal n small =
-    decimal_by_steps (λ m ds. AreAbove 32 ds) (λ m low. one_digit_above m) (λ m ds high above. AreAbove-append 32 ds ((48 + m % 10) ∷ []) above (one_digit_above (m % 10))) n small
+    decimal_by_steps (λ m ds. AreAbove 32 ds) (λ m low. one_digit_above m)
+    (λ m ds high above. AreAbove-append 32 ds ((48 + m % 10) ∷ []) above (one_digit_above (m % 10))) n small
 
 -- what reads as a hex digit is above the space
 hex_digit_above : (c v : ℕ) → hex_digit_value c ≡ Some v → nat_lt 32 c ≡ true
@@ -88,7 +81,8 @@ AreAbove-encode_lower (b ∷ bytes) h =
     let low = slice_index lower_digits (b % 16) in
     let small : b < 256 = h.0 in
     and_from (nat_lt 32 high) (nat_lt 32 low && list_all (nat_lt 32) (encode_lower bytes)) (lower_digit_above (b / 16) (omega arith))
-    (and_from (nat_lt 32 low) (list_all (nat_lt 32) (encode_lower bytes)) (lower_digit_above (b % 16) (omega arith)) (AreAbove-encode_lower bytes h.1))
+    (and_from (nat_lt 32 low) (list_all (nat_lt 32) (encode_lower bytes)) (lower_digit_above (b % 16) (omega arith))
+    (AreAbove-encode_lower bytes h.1))
 
 -- a visible byte is above the space
 visible_above : (b : ℕ) → IsVisible b → nat_lt 32 b ≡ true
@@ -96,4 +90,5 @@ visible_above b h = grind (arith, nat_tests)
 
 -- and a path
 pub AreAbove-path : (path : List ℕ) → IsPath path → AreAbove 32 path
-AreAbove-path path h = list_all-from_AllPass (nat_lt 32) path (All-weaker IsVisible (λ b. nat_lt 32 b ≡ true) visible_above path (path_is_visible path h))
+AreAbove-path path h = list_all-from_AllPass (nat_lt 32) path
+    (All-weaker IsVisible (λ b. nat_lt 32 b ≡ true) visible_above path (path_is_visible path h))

@@ -1,17 +1,11 @@
 -- A reader of the texts of printable reports: what stands on each line, word by word.
-use Rattle.std.proofs.Common.{ℕ, ◌==◌, List, [], ◌∷◌, drop, map, slice_index}
-use Rattle.std.specs.Prelude.{if◌then◌else◌}
-use Rattle.std.specs.Result.{result_unwrap_or}
-use Rattle.std.specs.Str.Parse.{digits_value}
+use Rattle.fs_types.proofs.Common.{ℕ, ◌==◌, List, [], ◌∷◌, drop, map, slice_index, if◌then◌else◌, result_unwrap_or, digits_value}
 use Rattle.hex.specs.Hex.{decode_of}
-use Rattle.fs_types.specs.declared.answer.Answer.{Answer}
-use Rattle.fs_types.specs.declared.answer.Answer.TheVariants as answers
-use Rattle.fs_types.specs.declared.answer.Body.{Body}
-use Rattle.fs_types.specs.declared.answer.Body.TheVariants as bodies
-use Rattle.fs_types.specs.declared.file_state.FileState.{FileState}
-use Rattle.fs_types.specs.declared.file_state.FileState.TheVariants as states
-use Rattle.fs_script.specs.Report.{Report}
+use Rattle.fs_script.specs.Vocabulary.{Answer, Body, FileState, Report}
 use Rattle.fs_script.proofs.TextParts.{cut_at}
+use Rattle.fs_types.specs.declared.answer.Answer.TheVariants as answers
+use Rattle.fs_types.specs.declared.answer.Body.TheVariants as bodies
+use Rattle.fs_types.specs.declared.file_state.FileState.TheVariants as states
 
 -- the number that a word spells
 abbrev pub number : List ℕ → ℕ

@@ -1,9 +1,9 @@
 -- What a line must know of: the versions that its client has seen, and the commits of earlier phases.
-use Rattle.std.specs.Prelude.{ℕ, zero, suc, Bool, false, ◌&&◌, ◌||◌, max, nat_lt, count_by, is_some, List, Option, Some, None}
+use Rattle.std.specs.Prelude.{ℕ, Bool, false, ◌&&◌, ◌||◌, max, nat_lt, count_by, is_some, List, Option, Some, None}
 use Rattle.fs_types.specs.declared.answer.Answer.{Answer}
 use Rattle.fs_script.specs.declared.line.Op.{Op}
-use Rattle.fs_script.specs.Job.{Job, own_at, phase}
-use Rattle.fs_script.specs.Pending.{Answering}
+use Rattle.fs_script.specs.Job.{Job, phase}
+use Rattle.fs_script.specs.Pending.{Answering, over_answers}
 use Rattle.fs_script.specs.Operations.{opens_path}
 use Rattle.fs_script.specs.AnswerKinds.{version_of, done_at}
 
@@ -11,15 +11,9 @@ abbrev pub at_least : ℕ → Option ℕ → ℕ
 at_least m None = m
 at_least m (Some v) = max m v
 
-abbrev pub seen_after : Option Op → Option Answer → ℕ → ℕ
-seen_after None a m = m
-seen_after (Some op) None m = m
-seen_after (Some op) (Some a) m = at_least m (version_of a)
-
 -- the greatest version in the answers before line n to client r on path p, 0 where there is none
 abbrev pub seen : Job → Answering → ℕ → List ℕ → ℕ → ℕ
-seen s A r p zero = 0
-seen s A r p (suc n) = seen_after (own_at s r p n) (A n) (seen s A r p n)
+seen = over_answers (λ op a n m. at_least m (version_of a)) 0
 
 -- how many lines of a journal are of an earlier phase than line n
 abbrev pub of_earlier_phases : Job → ℕ → List ℕ → ℕ
@@ -33,12 +27,6 @@ front s A J r p n = max (seen s A r p n) (of_earlier_phases s n J)
 abbrev pub opens : Op → Answer → Bool
 opens op a = opens_path op && is_some (done_at a)
 
-abbrev pub open_after : Option Op → Option Answer → Bool → Bool
-open_after None a b = b
-open_after (Some op) None b = b
-open_after (Some op) (Some a) b = opens op a || b
-
 -- whether client r has opened path p before line n
 abbrev pub is_open : Job → Answering → ℕ → List ℕ → ℕ → Bool
-is_open s A r p zero = false
-is_open s A r p (suc n) = open_after (own_at s r p n) (A n) (is_open s A r p n)
+is_open = over_answers (λ op a n open_before. opens op a || open_before) false

@@ -25,8 +25,7 @@ NothingIsLegal = (told : List ℕ) (s : Job) (A : Answering) (journals : Journal
 abbrev pub AnswersKeepJobsLegal : Type 0
 AnswersKeepJobsLegal =
     (told : List ℕ) (s : Job) (A B : Answering) (journals : Journals) (n : ℕ) (o : OpLine) (a : Answer)
-    → IsNextAnswer s A n o a B → IsLegalSoFar told s A journals
-    → commit_by o.op (pending s B o.rank o.path n) (B n) ≡ None
+    → IsNextAnswer s A n o a B → IsLegalSoFar told s A journals → commit_by o.op (pending s B o.rank o.path n) (B n) ≡ None
     → Fits told s A (journals o.path) n o a → IsLegalSoFar told s B journals
 
 -- and as one comes that commits its line, which is enabled, and fits in the journal with the line at its end
@@ -51,21 +50,18 @@ OnePrintableReport = (R S : Report) → IsPrintable R → IsPrintable S → text
 
 -- no text of a printable report goes on after that of another
 abbrev pub PrintableTextIsWhole : Type 0
-PrintableTextIsWhole = (R S : Report) (more : List ℕ)
-    → IsPrintable R → IsPrintable S → text R ++ more ≡ text S → more ≡ []
+PrintableTextIsWhole = (R S : Report) (more : List ℕ) → IsPrintable R → IsPrintable S → text R ++ more ≡ text S → more ≡ []
 
 -- ---- the texts of legal reports, where the bytes that they show are compared
 
 -- each number of a legal report fits the type that holds it, each byte is one, and each path is a path
 abbrev pub LegalReportsArePrintable : Type 0
-LegalReportsArePrintable = (told : List ℕ) (s : Job) (R : Report)
-    → IsJob s → AreTold s told → IsLegal s R told → IsPrintable R
+LegalReportsArePrintable = (told : List ℕ) (s : Job) (R : Report) → IsJob s → AreTold s told → IsLegal s R told → IsPrintable R
 
 -- two legal reports of one job with one text are one report
 abbrev pub OneLegalReport : Type 0
 OneLegalReport = (told told' : List ℕ) (s : Job) (R S : Report)
-    → IsJob s → AreTold s told → AreTold s told' → IsLegal s R told → IsLegal s S told'
-    → text R ≡ text S → R ≡ S
+    → IsJob s → AreTold s told → AreTold s told' → IsLegal s R told → IsLegal s S told' → text R ≡ text S → R ≡ S
 
 -- each text ends with a line `end`
 abbrev pub TextEnds : Type 0
@@ -74,5 +70,4 @@ TextEnds = (R : Report) → (lines : List ℕ) × (text R ≡ lines ++ codes "en
 -- no text of a legal report goes on after that of another legal report of the job
 abbrev pub TextIsWhole : Type 0
 TextIsWhole = (told told' : List ℕ) (s : Job) (R S : Report) (more : List ℕ)
-    → IsJob s → AreTold s told → AreTold s told' → IsLegal s R told → IsLegal s S told'
-    → text R ++ more ≡ text S → more ≡ []
+    → IsJob s → AreTold s told → AreTold s told' → IsLegal s R told → IsLegal s S told' → text R ++ more ≡ text S → more ≡ []

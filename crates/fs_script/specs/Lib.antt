@@ -17,3 +17,4 @@ pub mod Growth
 pub mod Returned
 pub mod SoFar
 pub mod Laws
+pub mod Vocabulary

@@ -25,15 +25,20 @@ after_answer ops.Sync a n q = if empties a then [] else q
 after_answer (ops.Read off len) a n q = q
 after_answer ops.Size a n q = q
 
-abbrev pub after : Option Op → Option Answer → ℕ → List ℕ → List ℕ
-after None a n q = q
-after (Some op) None n q = q
-after (Some op) (Some a) n q = after_answer op a n q
+-- what one line more makes of x, where step says what its operation's answer makes of it
+abbrev pub one_more : {X : Type 0} → (Op → Answer → ℕ → X → X) → Option Op → Option Answer → ℕ → X → X
+one_more step None a n x = x
+one_more step (Some op) None n x = x
+one_more step (Some op) (Some a) n x = step op a n x
+
+-- what the answers before line n to client r on path p make of x, one after the other
+abbrev pub over_answers : {X : Type 0} → (Op → Answer → ℕ → X → X) → X → Job → Answering → ℕ → List ℕ → ℕ → X
+over_answers step x s A r p zero = x
+over_answers step x s A r p (suc n) = one_more step (own_at s r p n) (A n) n (over_answers step x s A r p n)
 
 -- the lines before line n whose writes are pending for client r on path p, in order
 abbrev pub pending : Job → Answering → ℕ → List ℕ → ℕ → List ℕ
-pending s A r p zero = []
-pending s A r p (suc n) = after (own_at s r p n) (A n) n (pending s A r p n)
+pending = over_answers after_answer []
 
 abbrev pub pending_for : Job → Answering → ℕ → Option OpLine → List ℕ
 pending_for s A n None = []

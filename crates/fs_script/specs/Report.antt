@@ -57,7 +57,8 @@ answers_of R = answer_at R.answers
 
 -- each file is the state of its path at the end of its journal
 abbrev pub FilesAreStates : Job → Report → Type 0
-FilesAreStates s R = AllByRecursion (λ f. f.1 ≡ file_state_of (state s (answers_of R) (journal_of R.journals f.0) (length (journal_of R.journals f.0)))) R.files
+FilesAreStates s R = AllByRecursion (λ f. f.1 ≡ file_state_of
+    (state s (answers_of R) (journal_of R.journals f.0) (length (journal_of R.journals f.0)))) R.files
 
 -- the answer to line n is there, and fits the journal of its path
 pub record IsAnswered (told : List ℕ) (s : Job) (R : Report) (n : ℕ) (o : OpLine) : Type 0 where

@@ -1,11 +1,10 @@
 -- Lists of answers stay in the order of their lines.
-use Rattle.std.proofs.Common.{◌≡◌, ℕ, suc, ◌<◌, ◌≤◌, ◌==◌, List, [], ◌∷◌, ◌++◌, Some, None, refl, sym, ap, ◌∙◌, subst, if◌then◌else◌, arith, ◌⊎◌, inl, inr, All}
-use Rattle.std.proofs.lemmas.Bool.Decides.{nat_tests}
-use Rattle.std.specs.List.{AllByRecursion}
-use Rattle.std.proofs.lemmas.List.Elements.{All-head, All-tail, All-from_recursion}
+use Rattle.fs_types.proofs.Common.{◌≡◌, ℕ, suc, ◌<◌, ◌≤◌, ◌==◌, List, [], ◌∷◌, ◌++◌, Some, None, refl, sym, ap, ◌∙◌, subst, if◌then◌else◌}
+use Rattle.fs_types.proofs.Common.{arith, ◌⊎◌, inl, inr, All, nat_tests, AllByRecursion, All-head, All-tail, All-from_recursion}
 use Rattle.fs_types.specs.AnswerList.{answer_at, put_answer, answers_given, IsRising, IsRisingFrom}
 use Rattle.fs_types.specs.declared.answer.Answer.{Answer}
-use Rattle.fs_types.proofs.Tables.{answer_at-same, answer_at-other, put_answer-before, put_answer-over, put_answer-after, IsRisingFrom-lower}
+use Rattle.fs_types.proofs.Tables.{answer_at-same, answer_at-other, put_answer-before, put_answer-over, put_answer-after}
+use Rattle.fs_types.proofs.Tables.{IsRisingFrom-lower}
 
 -- how a line stands to another
 pub cases_line : (m n : ℕ) → (m < n) ⊎ ((m ≡ n) ⊎ (n < m))
@@ -15,17 +14,22 @@ cases_line m n = grind arith
 answer_at-put_first : (n m : ℕ) (a : Answer) → answer_at (put_answer n a []) m ≡ (if m == n then Some a else None)
 answer_at-put_first n m a = grind (arith, nat_tests)
 
-answer_at-put_before : (k n m : ℕ) (a b : Answer) (xs : List (ℕ × Answer)) → n < k → answer_at (put_answer n a ((k, b) ∷ xs)) m ≡ (if m == n then Some a else answer_at ((k, b) ∷ xs) m)
+answer_at-put_before : (k n m : ℕ) (a b : Answer) (xs : List (ℕ × Answer)) → n < k
+    → answer_at (put_answer n a ((k, b) ∷ xs)) m ≡ (if m == n then Some a else answer_at ((k, b) ∷ xs) m)
 answer_at-put_before k n m a b xs h = grind (arith, nat_tests)
 
-answer_at-put_over : (k n m : ℕ) (a b : Answer) (xs : List (ℕ × Answer)) → n ≡ k → answer_at (put_answer n a ((k, b) ∷ xs)) m ≡ (if m == n then Some a else answer_at ((k, b) ∷ xs) m)
+answer_at-put_over : (k n m : ℕ) (a b : Answer) (xs : List (ℕ × Answer)) → n ≡ k
+    → answer_at (put_answer n a ((k, b) ∷ xs)) m ≡ (if m == n then Some a else answer_at ((k, b) ∷ xs) m)
 answer_at-put_over k n m a b xs h = grind (arith, nat_tests)
 
-answer_at-put_after : (k n m : ℕ) (a b : Answer) (xs : List (ℕ × Answer)) → k < n → answer_at (put_answer n a xs) m ≡ (if m == n then Some a else answer_at xs m) → answer_at (put_answer n a ((k, b) ∷ xs)) m ≡ (if m == n then Some a else answer_at ((k, b) ∷ xs) m)
+answer_at-put_after : (k n m : ℕ) (a b : Answer) (xs : List (ℕ × Answer)) → k < n
+    → answer_at (put_answer n a xs) m ≡ (if m == n then Some a else answer_at xs m)
+    → answer_at (put_answer n a ((k, b) ∷ xs)) m ≡ (if m == n then Some a else answer_at ((k, b) ∷ xs) m)
 answer_at-put_after k n m a b xs h e = grind (arith, nat_tests)
 
 -- a line has the answer that was put there, and each other line the answer that it had
-pub answer_at-put_answer : (xs : List (ℕ × Answer)) (n m : ℕ) (a : Answer) → answer_at (put_answer n a xs) m ≡ (if m == n then Some a else answer_at xs m)
+pub answer_at-put_answer : (xs : List (ℕ × Answer)) (n m : ℕ) (a : Answer)
+    → answer_at (put_answer n a xs) m ≡ (if m == n then Some a else answer_at xs m)
 answer_at-put_answer [] n m a = answer_at-put_first n m a
 answer_at-put_answer ((k, b) ∷ xs) n m a = elim (cases_line n k) [
   | inl h ↦ answer_at-put_before k n m a b xs h
@@ -36,7 +40,8 @@ answer_at-put_answer ((k, b) ∷ xs) n m a = elim (cases_line n k) [
 ]
 
 -- a rising list stays so
-pub IsRisingFrom-put_answer : (xs : List (ℕ × Answer)) (k n : ℕ) (a : Answer) → k ≤ n → IsRisingFrom k xs → IsRisingFrom k (put_answer n a xs)
+pub IsRisingFrom-put_answer : (xs : List (ℕ × Answer)) (k n : ℕ) (a : Answer) → k ≤ n → IsRisingFrom k xs
+    → IsRisingFrom k (put_answer n a xs)
 IsRisingFrom-put_answer [] k n a l h = (l, tt)
 IsRisingFrom-put_answer ((i, b) ∷ xs) k n a l h = elim (cases_line n i) [
   | inl e ↦ subst (λ ys. IsRisingFrom k ys) (sym (put_answer-before i n a b xs e)) (l, (e, h.1))
@@ -71,15 +76,18 @@ answer_at-each xs k rising = All-from_recursion (λ (x : ℕ × Answer). answer_
     past : (n : ℕ) (a : Answer) (ys zs : List (ℕ × Answer)) → IsRisingFrom (suc n) zs → AllByRecursion (λ x. answer_at ys x.0 ≡ Some x.1) zs
         → AllByRecursion (λ x. answer_at ((n, a) ∷ ys) x.0 ≡ Some x.1) zs
     past n a ys [] above each = tt
-    past n a ys ((m, b) ∷ zs) above each =
-        (answer_at-other n m a ys (omega (arith, above.0)) ∙ each.0, past n a ys zs (IsRisingFrom-lower zs (suc n) (suc m) (omega (arith, above.0)) above.1) each.1)
+    past n a ys ((m, b) ∷ zs) above each = (
+      answer_at-other n m a ys (omega (arith, above.0)) ∙ each.0,
+      past n a ys zs (IsRisingFrom-lower zs (suc n) (suc m) (omega (arith, above.0)) above.1) each.1,
+    )
 
     by_recursion : (ys : List (ℕ × Answer)) (k : ℕ) → IsRisingFrom k ys → AllByRecursion (λ x. answer_at ys x.0 ≡ Some x.1) ys
     by_recursion [] k rising = tt
     by_recursion ((n, a) ∷ ys) k rising = (answer_at-same n n a ys refl, past n a ys ys rising.1 (by_recursion ys (suc n) rising.1))
 
 -- the tails of two lists that begin alike answer alike
-tails_alike : (i : ℕ) (a b : Answer) (xs ys : List (ℕ × Answer)) → IsRisingFrom (suc i) xs → IsRisingFrom (suc i) ys → ((n : ℕ) → answer_at ((i, a) ∷ xs) n ≡ answer_at ((i, b) ∷ ys) n) → (n : ℕ) → answer_at xs n ≡ answer_at ys n
+tails_alike : (i : ℕ) (a b : Answer) (xs ys : List (ℕ × Answer)) → IsRisingFrom (suc i) xs → IsRisingFrom (suc i) ys
+    → ((n : ℕ) → answer_at ((i, a) ∷ xs) n ≡ answer_at ((i, b) ∷ ys) n) → (n : ℕ) → answer_at xs n ≡ answer_at ys n
 tails_alike i a b xs ys hx hy h n = elim (cases_line n i) [
   | inl l ↦ answer_at-rising_below xs (suc i) n hx (omega arith) ∙ sym (answer_at-rising_below ys (suc i) n hy (omega arith))
   | inr g ↦ elim g [
@@ -89,7 +97,8 @@ tails_alike i a b xs ys hx hy h n = elim (cases_line n i) [
 ]
 
 -- two rising lists that answer each line alike begin with the same line
-first_alike : (i j : ℕ) (a b : Answer) (xs ys : List (ℕ × Answer)) → IsRisingFrom (suc i) xs → IsRisingFrom (suc j) ys → ((n : ℕ) → answer_at ((i, a) ∷ xs) n ≡ answer_at ((j, b) ∷ ys) n) → i ≡ j
+first_alike : (i j : ℕ) (a b : Answer) (xs ys : List (ℕ × Answer)) → IsRisingFrom (suc i) xs → IsRisingFrom (suc j) ys
+    → ((n : ℕ) → answer_at ((i, a) ∷ xs) n ≡ answer_at ((j, b) ∷ ys) n) → i ≡ j
 first_alike i j a b xs ys hx hy h = elim (cases_line i j) [
   | inl l ↦
       let some = answer_at-same i i a xs refl in
@@ -107,7 +116,9 @@ first_alike i j a b xs ys hx hy h = elim (cases_line i j) [
 ]
 
 -- lists that begin with the same line are one, where their tails are
-same_from_tails : (i j : ℕ) (a b : Answer) (xs ys : List (ℕ × Answer)) → IsRisingFrom (suc i) xs → IsRisingFrom (suc j) ys → ((n : ℕ) → answer_at ((i, a) ∷ xs) n ≡ answer_at ((j, b) ∷ ys) n) → i ≡ j → (IsRisingFrom (suc i) ys → ((n : ℕ) → answer_at xs n ≡ answer_at ys n) → xs ≡ ys) → (i, a) ∷ xs ≡ (j, b) ∷ ys
+same_from_tails : (i j : ℕ) (a b : Answer) (xs ys : List (ℕ × Answer)) → IsRisingFrom (suc i) xs → IsRisingFrom (suc j) ys
+    → ((n : ℕ) → answer_at ((i, a) ∷ xs) n ≡ answer_at ((j, b) ∷ ys) n) → i ≡ j
+    → (IsRisingFrom (suc i) ys → ((n : ℕ) → answer_at xs n ≡ answer_at ys n) → xs ≡ ys) → (i, a) ∷ xs ≡ (j, b) ∷ ys
 same_from_tails i j a b xs ys hx hy h e go =
     let hy' = subst (λ (n : ℕ). IsRisingFrom (suc n) ys) (sym e) hy in
     let h' = subst (λ (m : ℕ). (n : ℕ) → answer_at ((i, a) ∷ xs) n ≡ answer_at ((m, b) ∷ ys) n) (sym e) h in
@@ -118,7 +129,8 @@ same_from_tails i j a b xs ys hx hy h e go =
     cc
 
 -- two rising lists that answer each line alike are one
-pub same_from_answers : (xs ys : List (ℕ × Answer)) (k : ℕ) → IsRisingFrom k xs → IsRisingFrom k ys → ((n : ℕ) → answer_at xs n ≡ answer_at ys n) → xs ≡ ys
+pub same_from_answers : (xs ys : List (ℕ × Answer)) (k : ℕ) → IsRisingFrom k xs → IsRisingFrom k ys
+    → ((n : ℕ) → answer_at xs n ≡ answer_at ys n) → xs ≡ ys
 same_from_answers [] [] k hx hy h = refl
 same_from_answers [] ((j, b) ∷ ys) k hx hy h =
     let some = answer_at-same j j b ys refl in
@@ -129,4 +141,13 @@ same_from_answers ((i, a) ∷ xs) [] k hx hy h =
     let same = h i in
     cc
 same_from_answers ((i, a) ∷ xs) ((j, b) ∷ ys) k hx hy h =
-    same_from_tails i j a b xs ys hx.1 hy.1 h (first_alike i j a b xs ys hx.1 hy.1 h) (λ rising alike. same_from_answers xs ys (suc i) hx.1 rising alike)
+    same_from_tails i j a b xs ys hx.1 hy.1 h (first_alike i j a b xs ys hx.1 hy.1 h)
+    (λ rising alike. same_from_answers xs ys (suc i) hx.1 rising alike)
+
+pub ruleset answers_in_a_table = (
+  answer_at-put_answer,
+  IsRisingFrom-put_answer,
+  IsRising-answers_given,
+  put_answer-above,
+  same_from_answers,
+)

@@ -1,5 +1,5 @@
 -- The definitions at single values.
-use Rattle.std.proofs.Common.{◌≡◌, true, false, [], ◌∷◌, Some, None, codes, refl}
+use Rattle.fs_types.proofs.Common.{◌≡◌, true, false, [], ◌∷◌, Some, None, codes, refl}
 use Rattle.fs_types.specs.AnswerList.{answer_at, put_answer}
 use Rattle.fs_types.specs.NameText.{is_name}
 use Rattle.fs_types.specs.PathText.{is_path}

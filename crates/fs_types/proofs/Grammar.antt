@@ -1,15 +1,9 @@
 -- Paths and names in other words.
-use Rattle.std.proofs.Common.{◌≡◌, ℕ, ◌+◌, ◌<◌, ◌≤◌, ◌==◌, nat_eq, nat_le, true, false, ◌&&◌, not, List, [], ◌∷◌, ◌++◌, length, drop, refl, sym, ap, ◌∙◌, subst, arith, All, codes}
-use Rattle.std.proofs.lemmas.Bool.{leb-true, and_parts, and_from}
-use Rattle.std.proofs.lemmas.Bool.Decides.{nat_tests, Decides-eqb}
-use Rattle.std.proofs.lemmas.Grind.{common_steps}
-use Rattle.std.proofs.lemmas.Slice.Eq.{starts_is}
-use Rattle.std.proofs.lemmas.List.Elements.{All-weaker}
-use Rattle.std.proofs.lemmas.List.Folds.{list_all-append}
-use Rattle.std.proofs.lemmas.List.Sums.{AllPass-from_list_all, list_all-from_AllPass}
-use Rattle.std.proofs.lemmas.List.Splits.{join_with_byte-slice_split, length-slice_split, slice_split_at, slice_split_none}
-use Rattle.std.specs.Str.{bytes_eq}
-use Rattle.std.specs.List.{list_all, join_with_byte, starts_with}
+use Rattle.fs_types.proofs.Common.{◌≡◌, ℕ, ◌+◌, ◌<◌, ◌≤◌, ◌==◌, nat_eq, nat_le, true, false, ◌&&◌, not, List, [], ◌∷◌, ◌++◌, length, drop}
+use Rattle.fs_types.proofs.Common.{refl, sym, ap, ◌∙◌, subst, arith, All, codes, leb-true, and_parts, and_from, nat_tests, Decides-eqb}
+use Rattle.fs_types.proofs.Common.{common_steps, starts_is, All-weaker, list_all-append, AllPass-from_list_all, list_all-from_AllPass}
+use Rattle.fs_types.proofs.Common.{join_with_byte-slice_split, length-slice_split, slice_split_at, slice_split_none, bytes_eq, list_all}
+use Rattle.fs_types.proofs.Common.{join_with_byte, starts_with}
 use Rattle.fs_types.specs.PathText.{IsPath, is_component, is_name_character, between_slashes, mount_point}
 use Rattle.fs_types.specs.NameText.{IsName, is_name_part}
 use Rattle.fs_types.specs.PathLaws.{IsMountedText, IsVisible}
@@ -22,9 +16,13 @@ some_from_test n h = grind (arith, nat_tests)
 path_tests : (bytes : List ℕ) → IsPath bytes →
     (length bytes ≤ 255) × (bytes ≡ mount_point ++ drop 9 bytes) × (list_all is_component (between_slashes (drop 9 bytes)) ≡ true)
 path_tests bytes h =
-    let outer = and_parts (nat_le (length bytes) 255 && starts_with nat_eq bytes mount_point) (list_all is_component (between_slashes (drop 9 bytes))) h in
-    let inner = and_parts (nat_le (length bytes) 255) (starts_with nat_eq bytes mount_point) outer.0 in
-    (leb-true (length bytes) 255 inner.0, (starts_is Decides-eqb bytes mount_point (starts_with nat_eq bytes mount_point) refl).0 inner.1, outer.1)
+    let outer = and_parts (nat_le (length bytes) 255 && starts_with nat_eq bytes mount_point)
+    (list_all is_component (between_slashes (drop 9 bytes))) h in
+    let inner = and_parts (nat_le (length bytes) 255) (starts_with nat_eq bytes mount_point) outer.0 in (
+      leb-true (length bytes) 255 inner.0,
+      (starts_is Decides-eqb bytes mount_point (starts_with nat_eq bytes mount_point) refl).0 inner.1,
+      outer.1,
+    )
 
 -- a text whose parts are components isn't empty
 rest_not_empty : (rest : List ℕ) → list_all is_component (between_slashes rest) ≡ true → 1 ≤ length rest
@@ -64,7 +62,8 @@ component_characters part h =
 -- the characters of a component are those of names
 component_parts : (part : List ℕ) → is_component part ≡ true → list_all is_name_part part ≡ true
 component_parts part h =
-    list_all-from_AllPass is_name_part part (All-weaker (λ b. is_name_character b ≡ true) (λ b. is_name_part b ≡ true) part_of_character part (component_characters part h))
+    list_all-from_AllPass is_name_part part (All-weaker (λ b. is_name_character b ≡ true) (λ b. is_name_part b ≡ true) part_of_character
+    part (component_characters part h))
 
 -- components with slashes between them are text of a name
 joined_parts : (parts : List (List ℕ)) → list_all is_component parts ≡ true → list_all is_name_part (join_with_byte 47 parts) ≡ true
@@ -73,10 +72,12 @@ joined_parts (x ∷ []) h = component_parts x (and_parts (is_component x) true h
 joined_parts (x ∷ y ∷ parts) h =
     let tests = and_parts (is_component x) (list_all is_component (y ∷ parts)) h in
     list_all-append is_name_part x (47 ∷ join_with_byte 47 (y ∷ parts))
-    ∙ and_from (list_all is_name_part x) (list_all is_name_part (join_with_byte 47 (y ∷ parts))) (component_parts x tests.0) (joined_parts (y ∷ parts) tests.1)
+    ∙ and_from (list_all is_name_part x) (list_all is_name_part (join_with_byte 47 (y ∷ parts))) (component_parts x tests.0)
+    (joined_parts (y ∷ parts) tests.1)
 
 -- the tests of a name
-name_from_tests : (bytes : List ℕ) → 1 ≤ length bytes → length bytes ≤ 255 → starts_with nat_eq bytes (codes "-") ≡ false → list_all is_name_part bytes ≡ true → IsName bytes
+name_from_tests : (bytes : List ℕ) → 1 ≤ length bytes → length bytes ≤ 255 → starts_with nat_eq bytes (codes "-") ≡ false
+    → list_all is_name_part bytes ≡ true → IsName bytes
 name_from_tests bytes some short first parts = grind (arith, nat_tests)
 
 -- the tests of a name, the other way
@@ -90,10 +91,6 @@ name_tests bytes h =
     let inner = and_parts some short middle.0 in
     (some_from_test (length bytes) inner.0, leb-true (length bytes) 255 inner.1, outer.1)
 
--- a text after the mount point, with the characters of names, is a name
-mounted_name : (rest : List ℕ) → length (mount_point ++ rest) ≤ 255 → list_all is_name_part rest ≡ true → IsName (mount_point ++ rest)
-mounted_name rest l h = name_from_tests (mount_point ++ rest) (omega arith) l refl h
-
 -- a path is within the grammar of names
 pub name_from_path : (bytes : List ℕ) → IsPath bytes → IsName bytes
 name_from_path bytes h =
@@ -102,7 +99,7 @@ name_from_path bytes h =
     let joined = join_with_byte-slice_split 47 rest in
     let parts = subst (λ text. list_all is_name_part text ≡ true) joined (joined_parts (between_slashes rest) tests.2) in
     let short = subst (λ text. length text ≤ 255) tests.1 tests.0 in
-    subst (λ text. IsName text) (sym tests.1) (mounted_name rest short parts)
+    subst (λ text. IsName text) (sym tests.1) (name_from_tests (mount_point ++ rest) (omega arith) short refl parts)
 
 -- a name has 1 to 255 bytes
 pub name_bounds : (bytes : List ℕ) → IsName bytes → (1 ≤ length bytes) × (length bytes ≤ 255)
@@ -122,27 +119,37 @@ pub mounted_from_path : (bytes : List ℕ) → IsPath bytes → IsMountedText by
 mounted_from_path bytes h =
     let tests = path_tests bytes h in
     let rest = drop 9 bytes in
-    let count = length-slice_split (λ b. b == 47) rest in
-    (between_slashes rest, omega arith, AllPass-from_list_all is_component (between_slashes rest) tests.2, tests.1 ∙ ap (λ text. mount_point ++ text) (sym (join_with_byte-slice_split 47 rest)))
+    let count = length-slice_split (λ b. b == 47) rest in (
+      between_slashes rest,
+      omega arith,
+      AllPass-from_list_all is_component (between_slashes rest) tests.2,
+      tests.1 ∙ ap (λ text. mount_point ++ text) (sym (join_with_byte-slice_split 47 rest)),
+    )
 
 -- components that are joined by slashes are cut there again
-split_joined : (parts : List (List ℕ)) → 0 < length parts → list_all is_component parts ≡ true → between_slashes (join_with_byte 47 parts) ≡ parts
+split_joined : (parts : List (List ℕ)) → 0 < length parts → list_all is_component parts ≡ true
+    → between_slashes (join_with_byte 47 parts) ≡ parts
 split_joined [] l h = absurd (omega arith)
 split_joined (x ∷ []) l h =
-    slice_split_none (λ b. b == 47) x (All-weaker (λ b. is_name_character b ≡ true) (λ b. (b == 47) ≡ false) no_slash x (component_characters x (and_parts (is_component x) true h).0))
+    slice_split_none (λ b. b == 47) x (All-weaker (λ b. is_name_character b ≡ true) (λ b. (b == 47) ≡ false) no_slash x
+    (component_characters x (and_parts (is_component x) true h).0))
 split_joined (x ∷ y ∷ parts) l h =
     let tests = and_parts (is_component x) (list_all is_component (y ∷ parts)) h in
-    slice_split_at (λ b. b == 47) x 47 (join_with_byte 47 (y ∷ parts)) (All-weaker (λ b. is_name_character b ≡ true) (λ b. (b == 47) ≡ false) no_slash x (component_characters x tests.0)) refl
+    slice_split_at (λ b. b == 47) x 47 (join_with_byte 47 (y ∷ parts))
+    (All-weaker (λ b. is_name_character b ≡ true) (λ b. (b == 47) ≡ false) no_slash x (component_characters x tests.0)) refl
     ∙ ap (λ more. x ∷ more) (split_joined (y ∷ parts) (omega arith) tests.1)
 
 -- the mount point, and components with slashes between them, are a path
-mounted_path : (parts : List (List ℕ)) → 0 < length parts → list_all is_component parts ≡ true → length (mount_point ++ join_with_byte 47 parts) ≤ 255 → IsPath (mount_point ++ join_with_byte 47 parts)
+mounted_path : (parts : List (List ℕ)) → 0 < length parts → list_all is_component parts ≡ true
+    → length (mount_point ++ join_with_byte 47 parts) ≤ 255 → IsPath (mount_point ++ join_with_byte 47 parts)
 mounted_path parts l h s =
     let split = split_joined parts l h in
-    and_from (nat_le (length (mount_point ++ join_with_byte 47 parts)) 255 && true) (list_all is_component (between_slashes (join_with_byte 47 parts)))
+    and_from (nat_le (length (mount_point ++ join_with_byte 47 parts)) 255 && true)
+    (list_all is_component (between_slashes (join_with_byte 47 parts)))
     (grind (arith, nat_tests)) (ap (λ ps. list_all is_component ps) split ∙ h)
 
 -- and such a text of at most 255 bytes is a path
 pub path_from_mounted : (bytes : List ℕ) → IsMountedText bytes → length bytes ≤ 255 → IsPath bytes
 path_from_mounted bytes m s =
-    subst (λ text. IsPath text) (sym m.3) (mounted_path m.0 m.1 (list_all-from_AllPass is_component m.0 m.2) (subst (λ text. length text ≤ 255) m.3 s))
+    subst (λ text. IsPath text) (sym m.3) (mounted_path m.0 m.1 (list_all-from_AllPass is_component m.0 m.2)
+    (subst (λ text. length text ≤ 255) m.3 s))

@@ -1,3 +1,4 @@
+pub mod Common
 pub mod CallerLemmas
 pub mod Tables
 pub mod Overwrites

@@ -1,5 +1,5 @@
 -- Overwriting, cutting and showing at single values, worked out by hand.
-use Rattle.std.proofs.Common.{◌≡◌, ℕ, List, [], ◌∷◌, ◌++◌, Option, Some, codes, refl}
+use Rattle.fs_types.proofs.Common.{◌≡◌, ℕ, List, [], ◌∷◌, ◌++◌, Option, Some, codes, refl}
 use Rattle.fs_types.specs.Marks.{Mark, mark_of, marks_of, no_mark}
 use Rattle.fs_types.specs.Overwrite.{put, cut, shown}
 

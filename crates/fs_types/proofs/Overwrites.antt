@@ -1,10 +1,8 @@
 -- What stands at each place of a list after overwriting, cutting and showing it, and how long it is.
-use Rattle.std.proofs.Common.{◌≡◌, ℕ, zero, suc, ◌+◌, ◌-◌, ◌<◌, ◌≤◌, max, min, cond, ltb, leb, List, [], ◌∷◌, ◌++◌, length, take, drop, replicate, get_or, refl, ap, ◌∙◌, arith, inl, inr, All}
-use Rattle.std.specs.Prelude.{◌&&◌}
-use Rattle.std.proofs.lemmas.Bool.{cases_lt}
-use Rattle.std.proofs.lemmas.Bool.Decides.{nat_tests}
-use Rattle.std.proofs.lemmas.List.{length-append, length-take, length-take-le, length-drop, length-replicate, get_or_append_left, get_or-append_right, get_or-take, get_or-drop}
-use Rattle.std.proofs.lemmas.List.Elements.{All-append, All-take, All-drop, All-replicate}
+use Rattle.fs_types.proofs.Common.{◌≡◌, ℕ, zero, suc, ◌+◌, ◌-◌, ◌<◌, ◌≤◌, max, min, cond, ltb, leb, List, [], ◌∷◌, ◌++◌, length, take, drop}
+use Rattle.fs_types.proofs.Common.{replicate, get_or, refl, ap, ◌∙◌, arith, inl, inr, All, ◌&&◌, cases_lt, nat_tests, length-append}
+use Rattle.fs_types.proofs.Common.{length-take, length-take-le, length-drop, length-replicate, get_or_append_left, get_or-append_right}
+use Rattle.fs_types.proofs.Common.{get_or-take, get_or-drop, All-append, All-take, All-drop, All-replicate}
 use Rattle.fs_types.specs.Overwrite.{extended, put, cut, shown}
 
 -- a place of blanks is a blank, also past their end
@@ -23,16 +21,19 @@ pub get_or-extended : {X : Type 0} (blank : X) (xs : List X) (n k : ℕ) → get
 get_or-extended blank xs n k = get_or-append_blanks blank xs (n - length xs) k
 
 pub length-extended : {X : Type 0} (blank : X) (xs : List X) (n : ℕ) → length (extended blank xs n) ≡ max (length xs) n
-length-extended blank xs n = length-append xs (replicate (n - length xs) blank) ∙ ap (λ m. length xs + m) (length-replicate (n - length xs) blank) ∙ omega arith
+length-extended blank xs n = length-append xs (replicate (n - length xs) blank)
+    ∙ ap (λ m. length xs + m) (length-replicate (n - length xs) blank) ∙ omega arith
 
 length-front : {X : Type 0} (blank : X) (xs : List X) (off : ℕ) → length (take off (extended blank xs off)) ≡ off
 length-front blank xs off = length-take-le off (extended blank xs off) (omega (arith, length-extended blank xs off))
 
-length-two : {X : Type 0} (blank : X) (xs : List X) (off : ℕ) (ys : List X) → length (take off (extended blank xs off) ++ ys) ≡ off + length ys
+length-two : {X : Type 0} (blank : X) (xs : List X) (off : ℕ) (ys : List X)
+    → length (take off (extended blank xs off) ++ ys) ≡ off + length ys
 length-two blank xs off ys = length-append (take off (extended blank xs off)) ys ∙ ap (λ n. n + length ys) (length-front blank xs off)
 
 -- putting something makes a list at least as long as its end
-pub length-put : {X : Type 0} (blank : X) (xs : List X) (off : ℕ) (ys : List X) → 0 < length ys → length (put blank xs off ys) ≡ max (length xs) (off + length ys)
+pub length-put : {X : Type 0} (blank : X) (xs : List X) (off : ℕ) (ys : List X) → 0 < length ys
+    → length (put blank xs off ys) ≡ max (length xs) (off + length ys)
 length-put blank xs off [] some = absurd (omega arith)
 length-put blank xs off (y ∷ ys) some =
     length-append (take off (extended blank xs off) ++ (y ∷ ys)) (drop (off + length (y ∷ ys)) xs)
@@ -42,28 +43,32 @@ pub put-nothing : {X : Type 0} (blank : X) (xs : List X) (off : ℕ) → put bla
 put-nothing blank xs off = refl
 
 -- before what is put a list stays
-pub get_or-put_before : {X : Type 0} (blank : X) (xs : List X) (off : ℕ) (ys : List X) (k : ℕ) → k < off → get_or (put blank xs off ys) k blank ≡ get_or xs k blank
+pub get_or-put_before : {X : Type 0} (blank : X) (xs : List X) (off : ℕ) (ys : List X) (k : ℕ) → k < off
+    → get_or (put blank xs off ys) k blank ≡ get_or xs k blank
 get_or-put_before blank xs off [] k lt = refl
 get_or-put_before blank xs off (y ∷ ys) k lt =
-    get_or_append_left (take off (extended blank xs off) ++ (y ∷ ys)) (drop (off + length (y ∷ ys)) xs) blank k (omega (arith, length-two blank xs off (y ∷ ys)))
+    get_or_append_left (take off (extended blank xs off) ++ (y ∷ ys)) (drop (off + length (y ∷ ys)) xs) blank k
+    (omega (arith, length-two blank xs off (y ∷ ys)))
     ∙ get_or_append_left (take off (extended blank xs off)) (y ∷ ys) blank k (omega (arith, length-front blank xs off))
-    ∙ get_or-take off (extended blank xs off) k blank lt
-    ∙ get_or-extended blank xs off k
+    ∙ get_or-take off (extended blank xs off) k blank lt ∙ get_or-extended blank xs off k
 
 -- where something is put it stands
-pub get_or-put_within : {X : Type 0} (blank : X) (xs : List X) (off : ℕ) (ys : List X) (k : ℕ) → off ≤ k → k < off + length ys → get_or (put blank xs off ys) k blank ≡ get_or ys (k - off) blank
+pub get_or-put_within : {X : Type 0} (blank : X) (xs : List X) (off : ℕ) (ys : List X) (k : ℕ) → off ≤ k → k < off + length ys
+    → get_or (put blank xs off ys) k blank ≡ get_or ys (k - off) blank
 get_or-put_within blank xs off [] k le lt = absurd (omega arith)
 get_or-put_within blank xs off (y ∷ ys) k le lt =
-    get_or_append_left (take off (extended blank xs off) ++ (y ∷ ys)) (drop (off + length (y ∷ ys)) xs) blank k (omega (arith, length-two blank xs off (y ∷ ys)))
+    get_or_append_left (take off (extended blank xs off) ++ (y ∷ ys)) (drop (off + length (y ∷ ys)) xs) blank k
+    (omega (arith, length-two blank xs off (y ∷ ys)))
     ∙ get_or-append_right (take off (extended blank xs off)) (y ∷ ys) off k blank (length-front blank xs off) le
 
 -- behind what is put a list stays
-pub get_or-put_behind : {X : Type 0} (blank : X) (xs : List X) (off : ℕ) (ys : List X) (k : ℕ) → off + length ys ≤ k → get_or (put blank xs off ys) k blank ≡ get_or xs k blank
+pub get_or-put_behind : {X : Type 0} (blank : X) (xs : List X) (off : ℕ) (ys : List X) (k : ℕ) → off + length ys ≤ k
+    → get_or (put blank xs off ys) k blank ≡ get_or xs k blank
 get_or-put_behind blank xs off [] k le = refl
 get_or-put_behind blank xs off (y ∷ ys) k le =
-    get_or-append_right (take off (extended blank xs off) ++ (y ∷ ys)) (drop (off + length (y ∷ ys)) xs) (off + length (y ∷ ys)) k blank (length-two blank xs off (y ∷ ys)) le
-    ∙ get_or-drop (off + length (y ∷ ys)) xs (k - (off + length (y ∷ ys))) blank
-    ∙ ap (λ i. get_or xs i blank) (omega arith)
+    get_or-append_right (take off (extended blank xs off) ++ (y ∷ ys)) (drop (off + length (y ∷ ys)) xs) (off + length (y ∷ ys)) k blank
+    (length-two blank xs off (y ∷ ys)) le
+    ∙ get_or-drop (off + length (y ∷ ys)) xs (k - (off + length (y ∷ ys))) blank ∙ ap (λ i. get_or xs i blank) (omega arith)
 
 -- what stands at place k after a put
 pub get_or-put : {X : Type 0} (blank : X) (xs : List X) (off : ℕ) (ys : List X) (k : ℕ)

@@ -1,7 +1,5 @@
 -- Files after a write: how long they are, and what stands in them.
-use Rattle.std.proofs.Common.{ℕ, ◌+◌, ◌≤◌, List, length, All}
-use Rattle.std.specs.Prelude.{nat_le}
-use Rattle.std.proofs.lemmas.Bool.{cond_both, leb-true}
+use Rattle.fs_types.proofs.Common.{ℕ, ◌+◌, ◌≤◌, List, length, All, nat_le, cond_both, leb-true}
 use Rattle.fs_types.specs.declared.limits.TheConstants.{LONGEST_FILE}
 use Rattle.fs_types.specs.Overwrite.{put}
 use Rattle.fs_types.specs.PlainFile.{written}

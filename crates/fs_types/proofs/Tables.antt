@@ -1,7 +1,6 @@
 -- How a table of answers is read as a list of lines.
-use Rattle.std.proofs.Common.{All, ◌≡◌, ◌≢◌, ℕ, zero, suc, ◌+◌, ◌-◌, ◌<◌, ◌≤◌, List, [], ◌∷◌, ◌++◌, length, get_or, set, Option, Some, None, refl, sym, ap, subst, ◌∙◌, arith}
-use Rattle.std.proofs.lemmas.Bool.Decides.{nat_tests}
-use Rattle.std.proofs.lemmas.List.Elements.{All-nil, All-cons}
+use Rattle.fs_types.proofs.Common.{All, ◌≡◌, ◌≢◌, ℕ, zero, suc, ◌+◌, ◌-◌, ◌<◌, ◌≤◌, List, [], ◌∷◌, ◌++◌, length, get_or, set, Option, Some}
+use Rattle.fs_types.proofs.Common.{None, refl, sym, ap, subst, ◌∙◌, arith, nat_tests, All-nil, All-cons}
 use Rattle.fs_types.specs.AnswerList.{Given, answer_at, put_answer, listed, IsRisingFrom}
 use Rattle.fs_types.specs.declared.answer.Answer.{Answer}
 
@@ -47,16 +46,19 @@ answer_at-listed (None ∷ xs) n (suc k) =
     ap (λ m. answer_at (listed (suc n) xs) m) e ∙ answer_at-listed xs (suc n) k
 answer_at-listed (Some a ∷ xs) n (suc k) =
     let e : n + suc k ≡ suc n + k = omega arith in
-    answer_at-other n (n + suc k) a (listed (suc n) xs) (omega arith) ∙ ap (λ m. answer_at (listed (suc n) xs) m) e ∙ answer_at-listed xs (suc n) k
+    answer_at-other n (n + suc k) a (listed (suc n) xs) (omega arith) ∙ ap (λ m. answer_at (listed (suc n) xs) m) e
+    ∙ answer_at-listed xs (suc n) k
 
 -- an answer to a line below the first place goes to the front
-pub put_answer-listed_below : (xs : List (Option Answer)) (n m : ℕ) (a : Answer) → m < n → put_answer m a (listed n xs) ≡ (m, a) ∷ listed n xs
+pub put_answer-listed_below : (xs : List (Option Answer)) (n m : ℕ) (a : Answer) → m < n
+    → put_answer m a (listed n xs) ≡ (m, a) ∷ listed n xs
 put_answer-listed_below [] n m a h = refl
 put_answer-listed_below (None ∷ xs) n m a h = put_answer-listed_below xs (suc n) m a (omega arith)
 put_answer-listed_below (Some b ∷ xs) n m a h = put_answer-before n m a b (listed (suc n) xs) h
 
 -- an answer is put where its place is set
-pub listed-set : (xs : List (Option Answer)) (n k : ℕ) (a : Answer) → k < length xs → listed n (set xs k (Some a)) ≡ put_answer (n + k) a (listed n xs)
+pub listed-set : (xs : List (Option Answer)) (n k : ℕ) (a : Answer) → k < length xs
+    → listed n (set xs k (Some a)) ≡ put_answer (n + k) a (listed n xs)
 listed-set [] n k a h = absurd (omega arith)
 listed-set (None ∷ xs) n zero a h =
     let e : n + 0 ≡ n = omega arith in
@@ -83,7 +85,8 @@ answer_at-table xs m k h e =
     ap (λ n. answer_at (listed 1 xs) n) f ∙ answer_at-listed xs 1 k
 
 -- an answer is put where its place in the table is set
-pub listed-set_table : (xs : List (Option Answer)) (m k : ℕ) (a : Answer) → 1 ≤ m → k ≡ m - 1 → k < length xs → listed 1 (set xs k (Some a)) ≡ put_answer m a (listed 1 xs)
+pub listed-set_table : (xs : List (Option Answer)) (m k : ℕ) (a : Answer) → 1 ≤ m → k ≡ m - 1 → k < length xs
+    → listed 1 (set xs k (Some a)) ≡ put_answer m a (listed 1 xs)
 listed-set_table xs m k a h e l =
     let f : 1 + k ≡ m = omega arith in
     listed-set xs 1 k a l ∙ ap (λ n. put_answer n a (listed 1 xs)) f
@@ -98,7 +101,8 @@ IsRisingFrom-listed (Some a ∷ xs) n = (omega arith, IsRisingFrom-listed xs (su
 pub All-listed : (xs : List (Option Answer)) (n m : ℕ) → n + length xs ≤ suc m → All (λ x. x.0 ≤ m) (listed n xs)
 All-listed [] n m h = All-nil (λ (x : ℕ × Answer). x.0 ≤ m)
 All-listed (None ∷ xs) n m h = All-listed xs (suc n) m (omega arith)
-All-listed (Some a ∷ xs) n m h = All-cons (λ (x : ℕ × Answer). x.0 ≤ m) (n, a) (listed (suc n) xs) (omega arith) (All-listed xs (suc n) m (omega arith))
+All-listed (Some a ∷ xs) n m h = All-cons (λ (x : ℕ × Answer). x.0 ≤ m) (n, a) (listed (suc n) xs) (omega arith)
+    (All-listed xs (suc n) m (omega arith))
 
 -- a list of answers that a table of this many lines can have
 pub record IsInOrder (g : Given) : Type 0 where

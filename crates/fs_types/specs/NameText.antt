@@ -10,7 +10,8 @@ is_name_part b = is_name_character b || b == 47
 
 -- 1 to 255 of these characters, the first not `-`
 abbrev pub is_name : List ℕ → Bool
-is_name bytes = not (length bytes == 0) && nat_le (length bytes) LONGEST_PATH && not (starts_with nat_eq bytes (codes "-")) && list_all is_name_part bytes
+is_name bytes = not (length bytes == 0) && nat_le (length bytes) LONGEST_PATH && not (starts_with nat_eq bytes (codes "-")) && list_all
+    is_name_part bytes
 
 -- the bytes are within the grammar of names
 abbrev pub IsName : List ℕ → Type 0

@@ -10,7 +10,8 @@ PutsByPlace {X} blank = (xs : List X) (off : ℕ) (ys : List X) (k : ℕ) → sl
 
 -- a list in which something is put reaches at least to its end
 abbrev pub PutsToEnd : {X : Type 0} → X → Type 0
-PutsToEnd {X} blank = (xs : List X) (off : ℕ) (ys : List X) → 0 < length ys → length (put blank xs off ys) ≡ max (length xs) (off + length ys)
+PutsToEnd {X} blank = (xs : List X) (off : ℕ) (ys : List X) → 0 < length ys
+    → length (put blank xs off ys) ≡ max (length xs) (off + length ys)
 
 -- putting nothing changes nothing, also past the end
 abbrev pub PutsNothing : {X : Type 0} → X → Type 0
@@ -26,7 +27,8 @@ CutsToLength {X} blank = (xs : List X) (n : ℕ) → length (cut blank xs n) ≡
 
 -- place k of what is shown is place off + k of the list
 abbrev pub ShowsByPlace : {X : Type 0} → X → Type 0
-ShowsByPlace {X} blank = (xs : List X) (off len k : ℕ) → k < len → slice_index_or (shown xs off len) k blank ≡ slice_index_or xs (off + k) blank
+ShowsByPlace {X} blank = (xs : List X) (off len k : ℕ) → k < len
+    → slice_index_or (shown xs off len) k blank ≡ slice_index_or xs (off + k) blank
 
 -- at most len places are shown, and none past the end
 abbrev pub ShowsWithin : {X : Type 0} → X → Type 0

@@ -26,7 +26,8 @@ between_slashes bytes = slice_split (λ b. b == 47) bytes
 
 -- a text of at most 255 bytes that begins with the mount point, each part of the rest a component
 abbrev pub is_path : List ℕ → Bool
-is_path bytes = nat_le (length bytes) LONGEST_PATH && starts_with nat_eq bytes mount_point && list_all is_component (between_slashes (drop 9 bytes))
+is_path bytes = nat_le (length bytes) LONGEST_PATH && starts_with nat_eq bytes mount_point && list_all is_component
+    (between_slashes (drop 9 bytes))
 
 -- the bytes are within the grammar of paths
 abbrev pub IsPath : List ℕ → Type 0

@@ -7,6 +7,7 @@ ghost use Rattle.fs_types.specs.OverwriteLaws.{CutsFirstPlaces, OverwritesByPlac
 ghost use Rattle.fs_types.specs.PathLaws.{MountedTextsArePaths, NamesAreVisible, NamesHaveBounds, PathsAreMountedTexts, PathsAreNames, PathsHaveBounds};
 
 /// Answers are put one by one, and are kept in the order of their lines.
+#[tactic(auto, using(crate::proofs::AnswerOrder::answers_in_a_table))]
 pub fn answers_are_a_table()
     ensures one { PutsOneAnswer }
     ensures in_order { PutsInOrder }
@@ -35,6 +36,7 @@ pub fn showing_gives_a_range()
 {}
 
 /// A path is the mount point and components with a slash between each two.
+#[tactic(auto, using(crate::proofs::Grammar::mounted_from_path, crate::proofs::Grammar::path_from_mounted))]
 pub fn paths_are_mounted_texts()
     ensures mounted { PathsAreMountedTexts }
     ensures path { MountedTextsArePaths }
@@ -42,6 +44,7 @@ pub fn paths_are_mounted_texts()
 {}
 
 /// A name is a short text with no space and no end of line, and a path is a name.
+#[tactic(auto, using(crate::proofs::Grammar::name_from_path))]
 pub fn names_are_visible_texts()
     ensures path { PathsAreNames }
     ensures bounds { NamesHaveBounds }

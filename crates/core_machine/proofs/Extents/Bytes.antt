@@ -1,21 +1,12 @@
 -- The bytes that extents make, one after the other, and at each place.
-use Rattle.std.proofs.Common.{◌≡◌, ℕ, ◌+◌, ◌-◌, ◌<◌, ◌≤◌, max, min, cond, ltb, leb, List, [], ◌∷◌, ◌++◌, length, take, drop, get_or, sym, ap, subst, ◌∙◌, arith, inl, inr}
-use Rattle.std.specs.Prelude.{◌&&◌}
-use Rattle.std.proofs.lemmas.Bool.{cases_lt}
-use Rattle.std.proofs.lemmas.Bool.Decides.{nat_tests}
-use Rattle.std.proofs.lemmas.List.Elements.{All-from_recursion}
+use Rattle.fs_types.proofs.Common.{◌≡◌, ℕ, ◌+◌, ◌-◌, ◌<◌, ◌≤◌, max, min, cond, ltb, leb, List, [], ◌∷◌, ◌++◌, length, take, drop, get_or}
+use Rattle.fs_types.proofs.Common.{sym, ap, subst, ◌∙◌, arith, inl, inr, ◌&&◌, cases_lt, nat_tests, All-from_recursion, length-take-le}
+use Rattle.fs_types.proofs.Common.{length-drop, get_or_append_left, get_or-append_right, get_or-take, get_or-drop, take_more, map_push}
+use Rattle.fs_script.specs.Vocabulary.{LONGEST_FILE, put, Job, payload, offset, bytes_of, put_lines}
+use Rattle.core_machine.specs.Vocabulary.{Extent, IsExtent, AreExtents, lines_of_extents, bytes_of_extents, byte_over}
 use borrow.Rule.Slice.PartMut.{put_mid, post_of}
-use Rattle.std.proofs.lemmas.List.{length-take-le, length-drop, get_or_append_left, get_or-append_right, get_or-take, get_or-drop, take_more, map_push}
-use Rattle.fs_types.specs.declared.limits.TheConstants.{LONGEST_FILE}
-use Rattle.fs_types.specs.PlainFile.{written}
-use Rattle.fs_types.specs.Overwrite.{put}
 use Rattle.fs_types.proofs.CallerLemmas.{length-put, get_or-put}
-use Rattle.fs_script.specs.Job.{Job}
-use Rattle.fs_script.specs.Payload.{payload, offset, bytes_of}
-use Rattle.fs_script.specs.Effect.{put_lines}
 use Rattle.fs_script.proofs.CallerLemmas.{put_lines-append}
-use Rattle.core_machine.specs.declared.extent.Extent.{Extent}
-use Rattle.core_machine.specs.Extents.{IsExtent, AreExtents, lines_of_extents, bytes_of_extents, byte_over}
 
 -- a place of a list of which a part was written
 get_or-put_mid : (a n i : ℕ) (xs ys : List ℕ) → a + n ≤ length xs → length ys ≡ n
@@ -23,53 +14,60 @@ get_or-put_mid : (a n i : ℕ) (xs ys : List ℕ) → a + n ≤ length xs → le
 get_or-put_mid a n i xs ys fits len =
     let front : length (take a xs) ≡ a = length-take-le a xs (omega arith) in
     elim (cases_lt i a) [
-      | inl lt ↦ get_or_append_left (take a xs) (ys ++ post_of a n xs) 0 i (omega arith) ∙ get_or-take a xs i 0 lt ∙ grind (arith, nat_tests)
+      | inl lt ↦ get_or_append_left (take a xs) (ys ++ post_of a n xs) 0 i (omega arith) ∙ get_or-take a xs i 0 lt
+          ∙ grind (arith, nat_tests)
       | inr le ↦ get_or-append_right (take a xs) (ys ++ post_of a n xs) a i 0 front le ∙ elim (cases_lt i (a + n)) [
         | inl lt ↦ get_or_append_left ys (post_of a n xs) 0 (i - a) (omega arith) ∙ grind (arith, nat_tests)
         | inr past ↦ get_or-append_right ys (post_of a n xs) n (i - a) 0 len (omega arith)
-            ∙ get_or-drop n (drop a xs) (i - a - n) 0
-            ∙ get_or-drop a xs (n + (i - a - n)) 0
-            ∙ (let same : a + (n + (i - a - n)) ≡ i = omega arith in ap (λ j. get_or xs j 0) same)
-            ∙ grind (arith, nat_tests)
+            ∙ get_or-drop n (drop a xs) (i - a - n) 0 ∙ get_or-drop a xs (n + (i - a - n)) 0
+            ∙ (let same : a + (n + (i - a - n)) ≡ i = omega arith in ap (λ j. get_or xs j 0) same) ∙ grind (arith, nat_tests)
       ]
     ]
 
 -- a part of what is shown from off on takes the bytes of an extent that reaches over it
 pub overlaid : (bytes out part : List ℕ) (at len off from to k : ℕ) → from ≡ max at off → to ≡ min (at + len) (off + length out) → from < to
     → length bytes ≡ len → part ≡ take (to - from) (drop (from - at) bytes) → k < length out
-    → get_or (put_mid (from - off) (to - off - (from - off)) out part) k 0 ≡ cond (leb at (off + k) && ltb (off + k) (at + len)) (get_or bytes (off + k - at) 0) (get_or out k 0)
+    → get_or (put_mid (from - off) (to - off - (from - off)) out part) k 0
+    ≡ cond (leb at (off + k) && ltb (off + k) (at + len)) (get_or bytes (off + k - at) 0) (get_or out k 0)
 overlaid bytes out part at len off from to k is_from is_to lt whole is_part within =
-    let size : length part ≡ to - off - (from - off) = ap length is_part ∙ length-take-le (to - from) (drop (from - at) bytes) (omega (arith, length-drop (from - at) bytes)) ∙ omega arith in
+    let size : length part ≡ to - off - (from - off) = ap length is_part
+    ∙ length-take-le (to - from) (drop (from - at) bytes) (omega (arith, length-drop (from - at) bytes)) ∙ omega arith in
     get_or-put_mid (from - off) (to - off - (from - off)) k out part (omega arith) size ∙ elim (cases_lt (off + k) from) [
       | inl before ↦ grind (arith, nat_tests)
       | inr le ↦ elim (cases_lt (off + k) to) [
         | inl inside ↦
-            let here : get_or part (k - (from - off)) 0 ≡ get_or bytes (off + k - at) 0 = ap (λ (p : List ℕ). get_or p (k - (from - off)) 0) is_part ∙ get_or-take (to - from) (drop (from - at) bytes) (k - (from - off)) 0 (omega arith) ∙ get_or-drop (from - at) bytes (k - (from - off)) 0 ∙ (let same : from - at + (k - (from - off)) ≡ off + k - at = omega arith in ap (λ j. get_or bytes j 0) same) in
+            let here : get_or part (k - (from - off)) 0 ≡ get_or bytes (off + k - at) 0 =
+            ap (λ (p : List ℕ). get_or p (k - (from - off)) 0) is_part
+            ∙ get_or-take (to - from) (drop (from - at) bytes) (k - (from - off)) 0 (omega arith)
+            ∙ get_or-drop (from - at) bytes (k - (from - off)) 0
+            ∙ (let same : from - at + (k - (from - off)) ≡ off + k - at = omega arith in ap (λ j. get_or bytes j 0) same) in
             grind (arith, nat_tests)
         | inr past ↦ grind (arith, nat_tests)
       ]
     ]
 
-within_longest : (xs ys : List ℕ) (off : ℕ) → off + length ys ≤ LONGEST_FILE → written 0 xs off ys ≡ put 0 xs off ys
-within_longest xs ys off le = grind (arith, nat_tests)
-
 -- the bytes of extents and one more
-bytes_of_extents-push : (s : Job) (xs : List Extent) (x : Extent) → IsExtent s x → bytes_of_extents s (xs ++ x ∷ []) ≡ put 0 (bytes_of_extents s xs) x.at (payload s x.line)
-bytes_of_extents-push s xs x is =
+bytes_of_extents-push : {s : Job} (xs : List Extent) {x : Extent} → IsExtent s x
+    → bytes_of_extents s (xs ++ x ∷ []) ≡ put 0 (bytes_of_extents s xs) x.at (payload s x.line)
+bytes_of_extents-push {s} xs {x} is =
     ap (λ (ns : List ℕ). put_lines s (bytes_of s) ns []) (map_push (λ (y : Extent). y.line) xs x)
     ∙ put_lines-append s (bytes_of s) (lines_of_extents xs) (x.line ∷ []) []
-    ∙ (let le : offset s x.line + length (payload s x.line) ≤ LONGEST_FILE = omega (arith, is.at, is.len, is.end) in within_longest (bytes_of_extents s xs) (payload s x.line) (offset s x.line) le)
-    ∙ ap (λ o. put 0 (bytes_of_extents s xs) o (payload s x.line)) (sym is.at)
+    ∙ (let le : offset s x.line + length (payload s x.line) ≤ LONGEST_FILE = omega (arith, is.at, is.len, is.end) in
+    (grind (arith, nat_tests))) ∙ ap (λ o. put 0 (bytes_of_extents s xs) o (payload s x.line)) (sym is.at)
 
-length-bytes_of_extents-push : (s : Job) (xs : List Extent) (x : Extent) → IsExtent s x → length (bytes_of_extents s (xs ++ x ∷ [])) ≡ max (length (bytes_of_extents s xs)) (x.at + x.len)
-length-bytes_of_extents-push s xs x is =
-    ap length (bytes_of_extents-push s xs x is) ∙ length-put 0 (bytes_of_extents s xs) x.at (payload s x.line) (omega (arith, is.some, is.len)) ∙ omega (arith, is.len)
+length-bytes_of_extents-push : {s : Job} (xs : List Extent) {x : Extent} → IsExtent s x
+    → length (bytes_of_extents s (xs ++ x ∷ [])) ≡ max (length (bytes_of_extents s xs)) (x.at + x.len)
+length-bytes_of_extents-push {s} xs {x} is =
+    ap length (bytes_of_extents-push xs is) ∙ length-put 0 (bytes_of_extents s xs) x.at (payload s x.line) (omega (arith, is.some, is.len))
+    ∙ omega (arith, is.len)
 
 -- a byte of extents and one more
-get_or-bytes_of_extents-push : (s : Job) (xs : List Extent) (x : Extent) (k : ℕ) → IsExtent s x → get_or (bytes_of_extents s (xs ++ x ∷ [])) k 0 ≡ byte_over s x k (get_or (bytes_of_extents s xs) k 0)
-get_or-bytes_of_extents-push s xs x k is =
-    ap (λ (bs : List ℕ). get_or bs k 0) (bytes_of_extents-push s xs x is) ∙ get_or-put 0 (bytes_of_extents s xs) x.at (payload s x.line) k
-    ∙ ap (λ n. cond (leb x.at k && ltb k (x.at + n)) (get_or (payload s x.line) (k - x.at) 0) (get_or (bytes_of_extents s xs) k 0)) (sym is.len)
+get_or-bytes_of_extents-push : {s : Job} (xs : List Extent) {x : Extent} (k : ℕ) → IsExtent s x
+    → get_or (bytes_of_extents s (xs ++ x ∷ [])) k 0 ≡ byte_over s x k (get_or (bytes_of_extents s xs) k 0)
+get_or-bytes_of_extents-push {s} xs {x} k is =
+    ap (λ (bs : List ℕ). get_or bs k 0) (bytes_of_extents-push xs is) ∙ get_or-put 0 (bytes_of_extents s xs) x.at (payload s x.line) k
+    ∙ ap (λ n. cond (leb x.at k && ltb k (x.at + n)) (get_or (payload s x.line) (k - x.at) 0) (get_or (bytes_of_extents s xs) k 0))
+    (sym is.len)
 
 -- each of the extents is one
 pub IsExtent-at : (s : Job) (xs : List Extent) (i : ℕ) (x : Extent) → AreExtents s xs → i < length xs → x ≡ get_or xs i x → IsExtent s x
@@ -81,9 +79,13 @@ more xs i x lt is = take_more xs i x lt ∙ ap (λ y. take i xs ++ y ∷ []) (sy
 pub length-bytes_of_extents-more : (s : Job) (xs : List Extent) (i : ℕ) (x : Extent) → AreExtents s xs → i < length xs → x ≡ get_or xs i x
     → length (bytes_of_extents s (take (i + 1) xs)) ≡ max (length (bytes_of_extents s (take i xs))) (x.at + x.len)
 length-bytes_of_extents-more s xs i x are lt is =
-    ap (λ (ys : List Extent). length (bytes_of_extents s ys)) (more xs i x lt is) ∙ length-bytes_of_extents-push s (take i xs) x (IsExtent-at s xs i x are lt is)
+    ap (λ (ys : List Extent). length (bytes_of_extents s ys)) (more xs i x lt is)
+    ∙ length-bytes_of_extents-push (take i xs) (IsExtent-at s xs i x are lt is)
 
 pub get_or-bytes_of_extents-more : (s : Job) (xs : List Extent) (i k : ℕ) (x : Extent) → AreExtents s xs → i < length xs → x ≡ get_or xs i x
     → get_or (bytes_of_extents s (take (i + 1) xs)) k 0 ≡ byte_over s x k (get_or (bytes_of_extents s (take i xs)) k 0)
 get_or-bytes_of_extents-more s xs i k x are lt is =
-    ap (λ (ys : List Extent). get_or (bytes_of_extents s ys) k 0) (more xs i x lt is) ∙ get_or-bytes_of_extents-push s (take i xs) x k (IsExtent-at s xs i x are lt is)
+    ap (λ (ys : List Extent). get_or (bytes_of_extents s ys) k 0) (more xs i x lt is)
+    ∙ get_or-bytes_of_extents-push (take i xs) k (IsExtent-at s xs i x are lt is)
+
+pub ruleset extents_more = (IsExtent-at, length-bytes_of_extents-more, get_or-bytes_of_extents-more)

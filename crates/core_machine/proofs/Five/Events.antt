@@ -1,12 +1,9 @@
 -- The script of five lines, event by event, worked out by hand.
-use Rattle.std.proofs.Common.{◌≡◌, [], ◌∷◌, refl, false}
-use Rattle.std.specs.Prelude.{codes}
+use Rattle.fs_types.proofs.Common.{◌≡◌, [], ◌∷◌, refl, false, codes}
+use Rattle.core_machine.specs.Vocabulary.{nothing, Moment, fresh_client, ready, Turn, step}
+use Rattle.fs_script.proofs.CallerLemmas.{five_lines, path_a}
 use Rattle.fs_types.specs.declared.answer.Answer.TheVariants as answers
 use Rattle.fs_types.specs.declared.answer.Body.TheVariants as bodies
-use Rattle.fs_script.proofs.CallerLemmas.{five_lines, path_a}
-use Rattle.core_machine.specs.Doing.{nothing}
-use Rattle.core_machine.specs.Moment.{Moment, fresh_client, ready}
-use Rattle.core_machine.specs.Step.{Turn, step}
 
 abbrev pub start : Moment
 start = record {

@@ -1,14 +1,8 @@
 -- The run of the script of five lines is one that the law speaks of, and so its report is legal.
-use Rattle.std.proofs.Common.{◌≡◌, ℕ, zero, suc, List, [], ◌∷◌, Some, Contains, refl, sym, ap, ◌∙◌, subst, arith}
-use Rattle.std.proofs.lemmas.Option.{none-some, same_Some}
-use Rattle.fs_script.specs.declared.line.OpLine.{OpLine}
-use Rattle.fs_script.specs.Job.{op_at}
-use Rattle.fs_script.specs.Report.{ArePaths, IsLegal}
+use Rattle.fs_types.proofs.Common.{◌≡◌, ℕ, zero, suc, List, [], ◌∷◌, Some, Contains, refl, sym, ap, ◌∙◌, subst, arith, none-some, same_Some}
+use Rattle.fs_script.specs.Vocabulary.{op_at, ArePaths, IsLegal}
+use Rattle.core_machine.specs.Vocabulary.{OpLine, IsFirst, report_of, Turn, HasClients, Reaches}
 use Rattle.fs_script.proofs.CallerLemmas.{five_lines, path_a, on_a}
-use Rattle.core_machine.specs.Moment.{IsFirst}
-use Rattle.core_machine.specs.MomentReport.{report_of}
-use Rattle.core_machine.specs.Step.{Turn}
-use Rattle.core_machine.specs.LegalSoFar.{HasClients, Reaches}
 use Rattle.core_machine.proofs.Five.Events.{start, ended, turn}
 use Rattle.core_machine.proofs.Legal.Runs.{runs-legal}
 
@@ -57,5 +51,4 @@ five_run =
     (first, (first, (first, (first, refl))))
 
 five_report_is_legal : IsLegal five_lines (report_of ended) []
-five_report_is_legal =
-    runs-legal [] five_lines start ended four_turns five_clients five_first five_run refl refl
+five_report_is_legal = runs-legal [] five_lines start ended four_turns five_clients five_first five_run refl refl

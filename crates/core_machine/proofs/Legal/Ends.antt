@@ -1,19 +1,14 @@
 -- The end of a run: where no client is ready and memory didn't run out, each operation has an
 -- answer, and the report is legal.
-use Rattle.std.proofs.Common.{◌≡◌, ℕ, zero, suc, ◌+◌, ◌≤◌, ◌<◌, true, false, List, [], length, map, Some, None, IsSome, is_some, slice_get, slice_index, Contains, ltb-false, le-ltb, le-leb, true≢false, refl, sym, ap, ◌∙◌, subst, inl, inr, arith}
-use Rattle.std.proofs.lemmas.Bool.{or_left, or_right, cases_Bool, cases_lt, false_from_ne_true}
-use Rattle.std.proofs.lemmas.List.Elements.{All-map, recursion_from_All}
-use Rattle.std.proofs.lemmas.Option.{slice_get-get_or, slice_get_within}
-use Rattle.std.proofs.lemmas.Simd.{map-map}
-use Rattle.fs_types.specs.declared.file_state.FileState.{FileState}
-use Rattle.fs_script.specs.declared.line.OpLine.{OpLine}
-use Rattle.fs_script.specs.Job.{Job, op_at, op_lines, is_of_rank, program}
-use Rattle.fs_script.specs.Pending.{Answering}
-use Rattle.fs_script.specs.Report.{file_state_of, IsLegal}
-use Rattle.fs_script.proofs.CallerLemmas.{rises_past, none_from-is_some, lines-passing, IsLegal-finished, phase-rises, some_of, op_at-within, passing-rise, program-place, program-op}
-use Rattle.core_machine.specs.Moment.{Moment, printed, client_of, file_now, has_begun, may_come, next_line, ready}
-use Rattle.core_machine.specs.MomentReport.{report_of}
-use Rattle.core_machine.specs.LegalSoFar.{IsAnsweredUpTo, IsLegalMoment}
+use Rattle.fs_types.proofs.Common.{◌≡◌, ℕ, zero, suc, ◌+◌, ◌≤◌, ◌<◌, true, false, List, [], length, map, Some, None, IsSome, is_some}
+use Rattle.fs_types.proofs.Common.{slice_get, slice_index, Contains, ltb-false, le-ltb, le-leb, true≢false, refl, sym, ap, ◌∙◌, subst, inl}
+use Rattle.fs_types.proofs.Common.{inr, arith, or_left, or_right, cases_Bool, cases_lt, false_from_ne_true, All-map, recursion_from_All}
+use Rattle.fs_types.proofs.Common.{slice_get-get_or, slice_get_within, map-map}
+use Rattle.fs_script.specs.Vocabulary.{FileState, Job, op_at, op_lines, is_of_rank, program, Answering, file_state_of, IsLegal}
+use Rattle.core_machine.specs.Vocabulary.{OpLine, Moment, printed, client_of, file_now, has_begun, may_come, next_line, ready, report_of}
+use Rattle.core_machine.specs.Vocabulary.{IsAnsweredUpTo, IsLegalMoment}
+use Rattle.fs_script.proofs.CallerLemmas.{rises_past, none_from-is_some, lines-passing, IsLegal-finished, phase-rises, some_of}
+use Rattle.fs_script.proofs.CallerLemmas.{op_at-within, passing-rise, program-place, program-op}
 use Rattle.core_machine.proofs.Legal.Phases.{Contains-passing, lets_begin, has_begun-from}
 
 -- the place of a client whose lines before the one at i have answers, but not that one
@@ -43,8 +38,7 @@ no_operation s n past = false_from_ne_true (is_some (op_at s n)) (λ is.
 module _ {told : List ℕ} {m : Moment} (so_far : IsLegalMoment told m)
     (none : ready m ≡ []) (going : m.spent ≡ false) where
   -- a client whose next line's phase has begun would be ready
-  none_comes : (r n : ℕ) → r < m.job.shape.clients → next_line m r ≡ Some n
-      → has_begun m n ≡ true → ⊥
+  none_comes : (r n : ℕ) → r < m.job.shape.clients → next_line m r ≡ Some n → has_begun m n ≡ true → ⊥
   none_comes r n within next begun =
       let comes = λ (i : ℕ). may_come m (next_line m i) in
       let passes = ap (may_come m) next ∙ begun in
@@ -54,8 +48,7 @@ module _ {told : List ℕ} {m : Moment} (so_far : IsLegalMoment told m)
 
   -- an operation has an answer where each before it has one, since its client isn't ready
   answered-next : (n : ℕ) (o : OpLine) → op_at m.job n ≡ Some o
-      → ((k : ℕ) (l : OpLine) → k < n → op_at m.job k ≡ Some l → IsSome (printed m k))
-      → IsSome (printed m n)
+      → ((k : ℕ) (l : OpLine) → k < n → op_at m.job k ≡ Some l → IsSome (printed m k)) → IsSome (printed m n)
   answered-next n o is earlier = elim (cases_Bool (is_some (printed m n))) [
     | inl given ↦ given
     | inr fresh ↦
@@ -76,11 +69,9 @@ module _ {told : List ℕ} {m : Moment} (so_far : IsLegalMoment told m)
       ]
 
   -- so each below a line has one
-  answered-below : (below n : ℕ) (o : OpLine) → n < below → op_at m.job n ≡ Some o
-      → IsSome (printed m n)
+  answered-below : (below n : ℕ) (o : OpLine) → n < below → op_at m.job n ≡ Some o → IsSome (printed m n)
   answered-below zero n o lt is = absurd (omega arith)
-  answered-below (suc below) n o lt is =
-      answered-next n o is (λ k l before op. answered-below below k l (omega arith) op)
+  answered-below (suc below) n o lt is = answered-next n o is (λ k l before op. answered-below below k l (omega arith) op)
 
   unanswered : (n : ℕ) → is_some (op_at m.job n) ≡ false → printed m n ≡ None
   unanswered n not_one = none_from-is_some (printed m n) (false_from_ne_true (is_some (printed m n))
@@ -108,7 +99,7 @@ module _ {told : List ℕ} {m : Moment} (so_far : IsLegalMoment told m)
       let file_at : List ℕ × List ℕ → List ℕ × FileState = λ j. (j.0, state_at j.0) in
       let IsState = λ (f : List ℕ × FileState). f.1 ≡ state_at f.0 in
       let states = All-map IsState file_at m.journals (λ k d within. refl) in
-      IsLegal-finished told m.job (report_of m) (record {
+      IsLegal-finished (record {
         answers = lines-at_end;
         journals = so_far.paths;
         files = map-map (λ f. f.0) file_at m.journals;

@@ -1,22 +1,13 @@
 -- The line that comes next, and when its event keeps its path legal: what the events of all
 -- operations share.
-use Rattle.std.proofs.Common.{◌≡◌, ℕ, suc, ◌+◌, ◌≤◌, Bool, true, false, not, cond, List, [], ◌∷◌, ◌++◌, length, Option, Some, None, IfSome, IsTrue, true≢false, add-one, refl, sym, ap, arith}
-use Rattle.std.proofs.lemmas.Bool.{cond_both, OnTrue_from}
-use Rattle.fs_types.specs.declared.answer.Answer.{Answer}
-use Rattle.fs_types.specs.declared.answer.Answer.TheVariants as answers
-use Rattle.fs_script.specs.declared.line.OpLine.{OpLine}
-use Rattle.fs_script.specs.declared.line.Op.{Op}
-use Rattle.fs_script.specs.Job.{Job, op_at}
-use Rattle.fs_script.specs.Operations.{needs_open, commits}
-use Rattle.fs_script.specs.AnswerKinds.{version_of, done_at}
-use Rattle.fs_script.specs.Pending.{Answering}
-use Rattle.fs_script.specs.Effect.{is_enabled}
-use Rattle.fs_script.specs.Fits.{IsInReach, AreTold, AgreesWithOpen, LineView, line_view, IsInTable}
-use Rattle.fs_script.specs.Journal.{commit_of, IsLegalJournal}
-use Rattle.fs_script.specs.Growth.{AllFit, ComesNext, IsOfNoEarlierPhase}
+use Rattle.fs_types.proofs.Common.{◌≡◌, ℕ, suc, ◌+◌, ◌≤◌, Bool, true, false, not, cond, List, [], ◌∷◌, ◌++◌, length, Option, Some, None}
+use Rattle.fs_types.proofs.Common.{IfSome, IsTrue, true≢false, add-one, refl, sym, ap, arith, cond_both, OnTrue_from}
+use Rattle.fs_script.specs.Vocabulary.{Answer, Job, op_at, needs_open, commits, version_of, done_at, Answering, is_enabled, IsInReach}
+use Rattle.fs_script.specs.Vocabulary.{AreTold, AgreesWithOpen, LineView, line_view, IsInTable, commit_of, IsLegalJournal, AllFit}
+use Rattle.fs_script.specs.Vocabulary.{ComesNext, IsOfNoEarlierPhase}
+use Rattle.core_machine.specs.Vocabulary.{OpLine, Op, Event, PathNow, if_open, path_now}
 use Rattle.fs_script.proofs.CallerLemmas.{slice_get-push_last, front-le-length_fit, IsInReach-now, IsInReach-made}
-use Rattle.core_machine.specs.Event.{Event, PathNow, if_open}
-use Rattle.core_machine.specs.Step.{path_now}
+use Rattle.fs_types.specs.declared.answer.Answer.TheVariants as answers
 
 -- a line that comes next for its client, where its path is legal so far by the answers that count
 pub record NextLine : Type 0 where
@@ -70,12 +61,10 @@ IsLegalEvent k op e = IsLegalOutcome k op e.answer e.commits
 
 module _ (k : NextLine) where
   front-in_journal : (now k).front ≤ length k.journal
-  front-in_journal =
-      front-le-length_fit k.told k.job k.counted k.journal k.line.rank k.line.path k.number k.fit
+  front-in_journal = front-le-length_fit k.line.rank k.number k.fit
 
   MayPrint-from : (v : ℕ) → (now k).front ≤ v → v ≤ length k.journal → MayPrint k false v
-  MayPrint-from v =
-      IsInReach-now k.job k.counted k.journal k.number k.line v k.legal k.next k.is k.later
+  MayPrint-from v = IsInReach-now k.line v k.legal k.next k.is k.later
 
   pub MayPrint-front : MayPrint k false (now k).front
   MayPrint-front = MayPrint-from (now k).front (omega arith) front-in_journal
@@ -85,7 +74,7 @@ module _ (k : NextLine) where
 
   MayPrint-new : MayPrint k true (suc (length k.journal))
   MayPrint-new =
-      IsInReach-made k.job k.counted k.journal k.number k.line
+      IsInReach-made k.line
       k.legal k.next k.is k.later front-in_journal
 
 -- ---- answers, by whether they commit
@@ -96,10 +85,8 @@ not_done op q a none = cond_both (commits op q) _ _ (λ v. v ≡ None) (λ _. no
 
 module _ {k : NextLine} {op : Op} where
   -- it commits nothing
-  pub kept : (a : Answer)
-      → AgreesWithOpen op (now k).is_open a → IfSome (version_of a) (MayPrint k false)
-      → IsInTable (AreTold k.job k.told) (view_then k false) op a
-      → commit_of op (now k).pending a ≡ None → IsLegalAnswer k op a false
+  pub kept : (a : Answer) → AgreesWithOpen op (now k).is_open a → IfSome (version_of a) (MayPrint k false)
+      → IsInTable (AreTold k.job k.told) (view_then k false) op a → commit_of op (now k).pending a ≡ None → IsLegalAnswer k op a false
   kept a opened version answer none = record {
     opened = opened;
     version = version;
@@ -110,8 +97,7 @@ module _ {k : NextLine} {op : Op} where
 
   -- it commits the line, as the version after the last
   pub committed : AgreesWithOpen op (now k).is_open (answers.Done ((now k).version + 1))
-      → commits op (now k).pending ≡ true → is_enabled op (now k).file ≡ true
-      → IsLegalAnswer k op (answers.Done ((now k).version + 1)) true
+      → commits op (now k).pending ≡ true → is_enabled op (now k).file ≡ true → IsLegalAnswer k op (answers.Done ((now k).version + 1)) true
   committed opened commits_it enabled = rw add-one (record {
     opened = opened;
     version = MayPrint-new k;

@@ -1,17 +1,13 @@
 -- The journals with a line at the end of one path's: that path's journal has it, and every other
 -- stays.
-use Rattle.std.proofs.Common.{◌≡◌, ◌≢◌, ℕ, false, List, [], ◌∷◌, ◌++◌, map, bytes_eq, Contains, true≢false, refl, sym, ap, ◌∙◌, subst, inl, inr, arith}
-use Rattle.std.proofs.lemmas.Bool.{cases_Bool}
-use Rattle.std.proofs.lemmas.Map.Made.{Contains-tail}
-use Rattle.std.proofs.lemmas.Slice.Eq.{bytes_eq-Decides}
-use Rattle.fs_script.specs.Report.{journal_of}
-use Rattle.fs_script.specs.SoFar.{Pushes}
-use Rattle.core_machine.specs.Moment.{with_entry}
+use Rattle.fs_types.proofs.Common.{◌≡◌, ◌≢◌, ℕ, false, List, [], ◌∷◌, ◌++◌, map, bytes_eq, Contains, true≢false, refl, sym, ap, ◌∙◌, subst}
+use Rattle.fs_types.proofs.Common.{inl, inr, arith, cases_Bool, Contains-tail, bytes_eq-Decides}
+use Rattle.fs_script.specs.Vocabulary.{journal_of, Pushes}
+use Rattle.core_machine.specs.Vocabulary.{with_entry}
 use Rattle.core_machine.proofs.Paths.{same_bytes, other_bytes}
 
 -- the paths stay
-pub paths-with_entry : (p : List ℕ) (n : ℕ) (js : List (List ℕ × List ℕ))
-    → map (λ j. j.0) (with_entry p n js) ≡ map (λ j. j.0) js
+pub paths-with_entry : (p : List ℕ) (n : ℕ) (js : List (List ℕ × List ℕ)) → map (λ j. j.0) (with_entry p n js) ≡ map (λ j. j.0) js
 paths-with_entry p n [] = refl
 paths-with_entry p n (j ∷ js) =
     let rest = ap (λ ps. j.0 ∷ ps) (paths-with_entry p n js) in

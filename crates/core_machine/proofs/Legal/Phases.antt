@@ -1,19 +1,13 @@
 -- Phases: when that of a line has begun, and that no line with an answer is of a later one.
-use Rattle.std.proofs.Common.{◌≡◌, ℕ, ◌+◌, ◌≤◌, ◌<◌, Bool, true, length, Some, IsSome, is_some, leb, Contains, true≢false, sym, ◌∙◌, inl, inr}
-use Rattle.std.specs.Prelude.{◌||◌}
-use Rattle.std.specs.List.{filter, range_with_len}
-use Rattle.std.proofs.lemmas.Bool.{or_cases, lt-leb}
-use Rattle.std.proofs.lemmas.List.Elements.{All-contains, All-weaker, filter_passes}
-use Rattle.std.proofs.lemmas.List.Sums.{AllPass-from_list_all, list_all-from_AllPass}
-use Rattle.std.proofs.lemmas.Option.{slice_get_within, get_or_from_slice_get}
-use Rattle.fs_script.specs.declared.line.OpLine.{OpLine}
-use Rattle.fs_script.specs.Job.{op_at, op_lines, phase}
+use Rattle.fs_types.proofs.Common.{◌≡◌, ℕ, ◌+◌, ◌≤◌, ◌<◌, Bool, true, length, Some, IsSome, is_some, leb, Contains, true≢false, sym, ◌∙◌}
+use Rattle.fs_types.proofs.Common.{inl, inr, ◌||◌, filter, range_with_len, or_cases, lt-leb, All-contains, All-weaker, filter_passes}
+use Rattle.fs_types.proofs.Common.{AllPass-from_list_all, list_all-from_AllPass, slice_get_within, get_or_from_slice_get}
+use Rattle.fs_script.specs.Vocabulary.{op_at, op_lines, phase}
+use Rattle.core_machine.specs.Vocabulary.{OpLine, Moment, printed, has_begun}
 use Rattle.fs_script.proofs.CallerLemmas.{some_of, op_at-within, passing-place}
-use Rattle.core_machine.specs.Moment.{Moment, printed, has_begun}
 
 -- a number of a range that passes a test is among those that do
-pub Contains-passing : (P : ℕ → Bool) (a len n : ℕ) → P n ≡ true → a ≤ n → n < a + len
-    → Contains (filter P (range_with_len a len)) n
+pub Contains-passing : (P : ℕ → Bool) (a len n : ℕ) → P n ≡ true → a ≤ n → n < a + len → Contains (filter P (range_with_len a len)) n
 Contains-passing P a len n e from to =
     let ns = filter P (range_with_len a len) in
     let at = passing-place P a len n e from to in
@@ -24,9 +18,7 @@ abbrev pub lets_begin : Moment → ℕ → ℕ → Bool
 lets_begin m n k = is_some (printed m k) || leb (phase m.job n) (phase m.job k)
 
 -- where that is so of each operation, the phase of line n has begun
-pub has_begun-from : (m : Moment) (n : ℕ)
-    → ((k : ℕ) (o : OpLine) → op_at m.job k ≡ Some o → lets_begin m n k ≡ true)
-    → has_begun m n ≡ true
+pub has_begun-from : (m : Moment) (n : ℕ) → ((k : ℕ) (o : OpLine) → op_at m.job k ≡ Some o → lets_begin m n k ≡ true) → has_begun m n ≡ true
 has_begun-from m n each =
     list_all-from_AllPass (lets_begin m n) (op_lines m.job)
     (All-weaker (λ k. IsSome (op_at m.job k)) (λ k. lets_begin m n k ≡ true)

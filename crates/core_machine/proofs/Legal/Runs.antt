@@ -1,32 +1,23 @@
 -- A run: its first moment is legal, and each of its steps keeps it so. So what it reports at its
 -- end is legal.
-use Rattle.std.proofs.Common.{◌≡◌, ℕ, false, List, [], ◌∷◌, length, None, is_some, slice_index_or, bytes_eq, le-ltb, true≢false, refl, sym, ap, ◌∙◌, subst, arith}
-use Rattle.std.specs.List.{AllByRecursion}
-use Rattle.std.proofs.lemmas.Bool.{cond_both}
-use Rattle.std.proofs.lemmas.List.{length-replicate, get_or-replicate}
-use Rattle.fs_types.specs.AnswerList.{answer_at, IsRising}
-use Rattle.fs_script.specs.Job.{Job}
-use Rattle.fs_script.specs.Report.{journal_of, IsLegal}
+use Rattle.fs_types.proofs.Common.{◌≡◌, ℕ, false, List, [], ◌∷◌, length, None, is_some, slice_index_or, bytes_eq, le-ltb, true≢false, refl}
+use Rattle.fs_types.proofs.Common.{sym, ap, ◌∙◌, subst, arith, AllByRecursion, cond_both, length-replicate, get_or-replicate}
+use Rattle.fs_script.specs.Vocabulary.{answer_at, IsRising, Job, journal_of, IsLegal}
+use Rattle.core_machine.specs.Vocabulary.{Moment, fresh_client, printed, answering, client_of, journal, ready, IsFirst, report_of, Turn}
+use Rattle.core_machine.specs.Vocabulary.{step, HasClients, IsLegalMoment, Reaches}
 use Rattle.fs_script.proofs.CallerLemmas.{IsLegalSoFar-none}
-use Rattle.core_machine.specs.Moment.{Moment, fresh_client, printed, answering, client_of, journal, ready, IsFirst}
-use Rattle.core_machine.specs.MomentReport.{report_of}
-use Rattle.core_machine.specs.Step.{Turn, step}
-use Rattle.core_machine.specs.LegalSoFar.{HasClients, IsLegalMoment, Reaches}
 use Rattle.core_machine.proofs.Legal.Turns.{IsTurn-from_ready, step-is}
 use Rattle.core_machine.proofs.Legal.Steps.{step-legal}
 use Rattle.core_machine.proofs.Legal.Ends.{report-legal}
 
 -- ---- the first moment
 
-empty-journals : (js : List (List ℕ × List ℕ)) (p : List ℕ)
-    → AllByRecursion (λ j. j.1 ≡ []) js → journal_of js p ≡ []
+empty-journals : (js : List (List ℕ × List ℕ)) (p : List ℕ) → AllByRecursion (λ j. j.1 ≡ []) js → journal_of js p ≡ []
 empty-journals [] p all = refl
-empty-journals (j ∷ js) p all =
-    cond_both (bytes_eq j.0 p) _ _ (λ J. J ≡ []) (λ _. all.0) (λ _. empty-journals js p all.1)
+empty-journals (j ∷ js) p all = cond_both (bytes_eq j.0 p) _ _ (λ J. J ≡ []) (λ _. all.0) (λ _. empty-journals js p all.1)
 
-first-legal : (told : List ℕ) (m : Moment) → HasClients m.job → IsFirst m.job m
-    → IsLegalMoment told m
-first-legal told m clients first =
+first-legal : (told : List ℕ) {m : Moment} → HasClients m.job → IsFirst m.job m → IsLegalMoment told m
+first-legal told {m} clients first =
     let none : (n : ℕ) → printed m n ≡ None = λ n. ap (λ xs. answer_at xs n) first.answers in
     record {
       job = clients;
@@ -47,21 +38,20 @@ first-legal told m clients first =
 -- ---- the run
 
 -- it keeps the job, and a legal moment legal
-run-legal : (told : List ℕ) (m n : Moment) (turns : List Turn) → IsLegalMoment told m
+run-legal : {told : List ℕ} (m n : Moment) (turns : List Turn) → IsLegalMoment told m
     → Reaches m turns n → (n.job ≡ m.job) × IsLegalMoment told n
-run-legal told m n [] so_far is = (ap (λ x. x.job) (sym is), subst (IsLegalMoment told) is so_far)
-run-legal told m n (turn ∷ turns) so_far run =
-    let first = step-is (IsTurn-from_ready told m turn.client so_far run.0) in
-    let rest = run-legal told (step m turn) n turns (step-legal told m turn so_far run.0) run.1 in
+run-legal {told} m n [] so_far is = (ap (λ x. x.job) (sym is), subst (IsLegalMoment told) is so_far)
+run-legal {told} m n (turn ∷ turns) so_far run =
+    let first = step-is (IsTurn-from_ready turn.client so_far run.0) in
+    let rest = run-legal (step m turn) n turns (step-legal turn so_far run.0) run.1 in
     (rest.0 ∙ ap (λ x. x.job) first, rest.1)
 
 -- what it reports at its end is legal
 pub runs-legal : (told : List ℕ) (s : Job) (m n : Moment) (turns : List Turn)
-    → HasClients s → IsFirst s m → Reaches m turns n → ready n ≡ [] → n.spent ≡ false
-    → IsLegal s (report_of n) told
+    → HasClients s → IsFirst s m → Reaches m turns n → ready n ≡ [] → n.spent ≡ false → IsLegal s (report_of n) told
 runs-legal told s m n turns clients first run none going =
     let own = sym first.job in
     let begins = subst (λ j. IsFirst j m) own first in
-    let so_far = first-legal told m (subst HasClients own clients) begins in
-    let end = run-legal told m n turns so_far run in
+    let so_far = first-legal told (subst HasClients own clients) begins in
+    let end = run-legal m n turns so_far run in
     subst (λ j. IsLegal j (report_of n) told) (end.0 ∙ first.job) (report-legal end.1 none going)

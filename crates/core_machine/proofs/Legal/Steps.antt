@@ -1,22 +1,13 @@
 -- One event keeps a moment legal: each invariant after it, by whether it brings an answer.
-use Rattle.std.proofs.Common.{◌≡◌, ◌≢◌, ℕ, ◌<◌, Bool, true, false, cond, List, length, map, Option, Some, None, IsSome, is_some, Contains, refl, sym, ap, ◌∙◌, subst, subst₂, inl, inr, arith}
-use Rattle.std.proofs.lemmas.Bool.{cases_eq}
-use Rattle.std.proofs.lemmas.List.{get_or-set_same, get_or-set_other, length-set}
-use Rattle.fs_types.specs.declared.answer.Answer.{Answer}
-use Rattle.fs_types.specs.AnswerList.{answer_at, put_answer}
+use Rattle.fs_types.proofs.Common.{◌≡◌, ◌≢◌, ℕ, ◌<◌, Bool, true, false, cond, List, length, map, Option, Some, None, IsSome, is_some}
+use Rattle.fs_types.proofs.Common.{Contains, refl, sym, ap, ◌∙◌, subst, subst₂, inl, inr, arith, cases_eq, get_or-set_same}
+use Rattle.fs_types.proofs.Common.{get_or-set_other, length-set}
+use Rattle.fs_script.specs.Vocabulary.{Answer, answer_at, put_answer, op_at, phase, Answering, pending, commit_of, commit_by, journal_of}
+use Rattle.fs_script.specs.Vocabulary.{ArePaths, AddsAnswer, IsLegalSoFar, IsNextAnswer}
+use Rattle.core_machine.specs.Vocabulary.{Doing, Client, Moment, fresh_client, printed, answering, client_of, with_entry, ready, Event}
+use Rattle.core_machine.specs.Vocabulary.{Turn, event_at, after_turn, after_event, step, IsAnsweredUpTo, IsLegalMoment}
 use Rattle.fs_types.proofs.CallerLemmas.{IsRisingFrom-put_answer}
-use Rattle.fs_script.specs.Job.{op_at, phase}
-use Rattle.fs_script.specs.Pending.{Answering, pending}
-use Rattle.fs_script.specs.Journal.{commit_of, commit_by}
-use Rattle.fs_script.specs.Report.{journal_of, ArePaths}
-use Rattle.fs_script.specs.Growth.{AddsAnswer}
-use Rattle.fs_script.specs.SoFar.{IsLegalSoFar, IsNextAnswer}
 use Rattle.fs_script.proofs.CallerLemmas.{pending-agree, AddsAnswer-put, AgreeBefore-next, IsLegalSoFar-kept, IsLegalSoFar-commit}
-use Rattle.core_machine.specs.Doing.{Doing}
-use Rattle.core_machine.specs.Moment.{Client, Moment, fresh_client, printed, answering, client_of, journal, with_entry, ready}
-use Rattle.core_machine.specs.Event.{Event}
-use Rattle.core_machine.specs.Step.{Turn, event_at, after_turn, after_event, step}
-use Rattle.core_machine.specs.LegalSoFar.{IsAnsweredUpTo, IsLegalMoment}
 use Rattle.core_machine.proofs.Legal.Event.{now, IsLegalAnswer, IsLegalOutcome}
 use Rattle.core_machine.proofs.Legal.Events.{event_of-legal}
 use Rattle.core_machine.proofs.Legal.Journals.{paths-with_entry, Pushes-with_entry}
@@ -88,11 +79,10 @@ module _ {told : List ℕ} {m : Moment} {r : ℕ} (t : IsTurn told m r) (a : Ans
   adds = AddsAnswer-put m.answers n a
 
   -- another client's place stays
-  other_place : (i : ℕ) → i ≢ r → i < m.job.shape.clients
-      → IsAnsweredUpTo m.job B i (client_of m i).place
+  other_place : (i : ℕ) → i ≢ r → i < m.job.shape.clients → IsAnsweredUpTo m.job B i (client_of m i).place
   other_place i other within =
       let apart : o.rank ≢ i = λ e. other (sym e ∙ t.rank) in
-      upto-other m.job (printed m) B i n (client_of m i).place o a adds is apart (so_far.places i within)
+      upto-other m.job i (client_of m i).place o adds is apart (so_far.places i within)
 
   operations-after : (i : ℕ) → IsSome (B i) → IsSome (op_at m.job i)
   operations-after i given = elim (cases_eq i n) [
@@ -107,8 +97,7 @@ module _ {told : List ℕ} {m : Moment} {r : ℕ} (t : IsTurn told m r) (a : Ans
     | inr other ↦ ap is_some (adds.others i other) ∙ given
   ]
 
-  phases-after : (i j : ℕ) → IsSome (B i) → IsSome (op_at m.job j)
-      → phase m.job j < phase m.job i → IsSome (B j)
+  phases-after : (i j : ℕ) → IsSome (B i) → IsSome (op_at m.job j) → phase m.job j < phase m.job i → IsSome (B j)
   phases-after i j given there before = still_answered j (elim (cases_eq i n) [
     | inl here ↦
         begun-answered m n j t.begun there (subst (λ l. phase m.job j < phase m.job l) here before)
@@ -120,8 +109,7 @@ module _ {told : List ℕ} {m : Moment} {r : ℕ} (t : IsTurn told m r) (a : Ans
   journals_after committed = cond committed (with_entry o.path n m.journals) m.journals
 
   paths-after : (committed : Bool) → ArePaths m.job (map (λ j. j.0) (journals_after committed))
-  paths-after true =
-      subst (ArePaths m.job) (sym (paths-with_entry o.path n m.journals)) so_far.paths
+  paths-after true = subst (ArePaths m.job) (sym (paths-with_entry o.path n m.journals)) so_far.paths
   paths-after false = so_far.paths
 
   next_answer : IsNextAnswer m.job (answering m) n o a B
@@ -131,22 +119,19 @@ module _ {told : List ℕ} {m : Moment} {r : ℕ} (t : IsTurn told m r) (a : Ans
   commit-after : commit_by o.op (pending m.job B o.rank o.path n) (B n)
       ≡ commit_of o.op (now (coming t)).pending a
   commit-after =
-      let agree = AgreeBefore-next m.job o.rank o.path (answering m) B n n a adds (omega arith) in
+      let agree = AgreeBefore-next m.job o.rank o.path n adds (omega arith) in
       let same = pending-agree m.job o.rank o.path (answering m) B n agree in
-      ap (commit_by o.op (pending m.job B o.rank o.path n)) adds.added
-      ∙ ap (λ q. commit_of o.op q a) (sym same)
+      ap (commit_by o.op (pending m.job B o.rank o.path n)) adds.added ∙ ap (λ q. commit_of o.op q a) (sym same)
 
   legal-after : (committed : Bool) → IsLegalAnswer (coming t) o.op a committed
       → IsLegalSoFar told m.job B (journal_of (journals_after committed))
   legal-after true k =
       let has = so_far.paths.each o.path (record { line = n; op = o; is = is; on = refl }) in
-      IsLegalSoFar-commit told m.job (answering m) B (journal m) (journal_of (journals_after true))
-      n o a next_answer so_far.legal (Pushes-with_entry o.path n m.journals has)
+      IsLegalSoFar-commit next_answer so_far.legal (Pushes-with_entry o.path n m.journals has)
       (commit-after ∙ k.commit) (k.enabled refl)
       (record { opened = k.opened; version = k.version; answer = k.answer })
   legal-after false k =
-      IsLegalSoFar-kept told m.job (answering m) B (journal m)
-      n o a next_answer so_far.legal (commit-after ∙ k.commit)
+      IsLegalSoFar-kept next_answer so_far.legal (commit-after ∙ k.commit)
       (record { opened = k.opened; version = k.version; answer = k.answer })
 
   answered-legal : (committed : Bool) (doing : Doing) → IsLegalAnswer (coming t) o.op a committed
@@ -165,17 +150,16 @@ module _ {told : List ℕ} {m : Moment} {r : ℕ} (t : IsTurn told m r) (a : Ans
 -- ---- a step
 
 after_event-legal : {told : List ℕ} {m : Moment} {r : ℕ} (t : IsTurn told m r)
-    (answer : Option Answer) (committed : Bool) (doing : Doing)
-    → IsLegalOutcome (coming t) t.line.op answer committed
+    (answer : Option Answer) (committed : Bool) (doing : Doing) → IsLegalOutcome (coming t) t.line.op answer committed
     → IsLegalMoment told (after t (record { answer = answer; commits = committed; doing = doing }))
 after_event-legal t None committed doing none = rw none (unanswered-legal t doing)
 after_event-legal t (Some a) committed doing legal = answered-legal t a committed doing legal
 
 -- the step of a client that is ready keeps a moment legal
-pub step-legal : (told : List ℕ) (m : Moment) (turn : Turn) → IsLegalMoment told m
+pub step-legal : {told : List ℕ} {m : Moment} (turn : Turn) → IsLegalMoment told m
     → Contains (ready m) turn.client → IsLegalMoment told (step m turn)
-step-legal told m turn so_far has =
-    let t = IsTurn-from_ready told m turn.client so_far has in
+step-legal {told} {m} turn so_far has =
+    let t = IsTurn-from_ready turn.client so_far has in
     let e = event_at m t.number t.line in
     subst (IsLegalMoment told) (sym (step-is t))
     (after_event-legal t e.answer e.commits e.doing (event_of-legal (coming t) t.line.op))

@@ -1,16 +1,11 @@
 -- A client's turn: the line that comes next, and what is known as it comes.
-use Rattle.std.proofs.Common.{◌≡◌, ℕ, ◌≤◌, ◌<◌, true, List, [], Option, Some, None, IsSome, is_some, Contains, true≢false, refl, sym, ap, ◌∙◌, subst, inl, inr, arith}
-use Rattle.std.specs.List.{filter, range_with_len}
-use Rattle.std.proofs.lemmas.Bool.{cond_both, cases_lt}
-use Rattle.std.proofs.lemmas.List.Elements.{All-contains, filter_passes}
-use Rattle.std.proofs.lemmas.Option.{same_Some}
-use Rattle.fs_script.specs.declared.line.OpLine.{OpLine}
-use Rattle.fs_script.specs.Job.{op_at, phase, rank_in}
-use Rattle.fs_script.specs.Growth.{ComesNext}
+use Rattle.fs_types.proofs.Common.{◌≡◌, ℕ, ◌≤◌, ◌<◌, true, List, [], Option, Some, None, IsSome, is_some, Contains, true≢false, refl, sym}
+use Rattle.fs_types.proofs.Common.{ap, ◌∙◌, subst, inl, inr, arith, filter, range_with_len, cond_both, cases_lt, All-contains}
+use Rattle.fs_types.proofs.Common.{filter_passes, same_Some}
+use Rattle.fs_script.specs.Vocabulary.{op_at, phase, rank_in, ComesNext}
+use Rattle.core_machine.specs.Vocabulary.{OpLine, Moment, printed, answering, client_of, journal, has_begun, may_come, next_line, ready}
+use Rattle.core_machine.specs.Vocabulary.{after_event, event_at, step_line, step_at, step, IsAnsweredUpTo, IsLegalMoment}
 use Rattle.fs_script.proofs.CallerLemmas.{some_of, AllByRecursion-from_get, answered-in_journal, program-op}
-use Rattle.core_machine.specs.Moment.{Moment, printed, answering, client_of, journal, has_begun, may_come, next_line, ready}
-use Rattle.core_machine.specs.Step.{after_event, event_at, step_line, step_at, step}
-use Rattle.core_machine.specs.LegalSoFar.{IsAnsweredUpTo, IsLegalMoment}
 use Rattle.core_machine.proofs.Places.{StandsNext, unanswered, before}
 use Rattle.core_machine.proofs.Legal.Event.{NextLine}
 
@@ -38,15 +33,13 @@ ready-may_come m r has =
     (λ _ none. absurd (omega arith))
     (λ _. All-contains (λ i. comes i ≡ true) (filter comes all) r (filter_passes comes all)) has
 
-line-of : (m : Moment) (x : Option ℕ) → may_come m x ≡ true
-    → (n : ℕ) × (x ≡ Some n) × (has_begun m n ≡ true)
+line-of : (m : Moment) (x : Option ℕ) → may_come m x ≡ true → (n : ℕ) × (x ≡ Some n) × (has_begun m n ≡ true)
 line-of m None h = absurd (true≢false (sym h))
 line-of m (Some n) h = (n, refl, h)
 
 -- a client that is ready has a turn
-pub IsTurn-from_ready : (told : List ℕ) (m : Moment) (r : ℕ)
-    → IsLegalMoment told m → Contains (ready m) r → IsTurn told m r
-IsTurn-from_ready told m r so_far has =
+pub IsTurn-from_ready : {told : List ℕ} {m : Moment} (r : ℕ) → IsLegalMoment told m → Contains (ready m) r → IsTurn told m r
+IsTurn-from_ready {m} r so_far has =
     let next = line-of m (next_line m r) (ready-may_come m r has) in
     let op = program-op m.job r (client_of m r).place next.0 next.1 in
     record {
@@ -107,7 +100,7 @@ module _ {told : List ℕ} {m : Moment} {r : ℕ} (t : IsTurn told m r) where
         is = is;
         next = comes_next;
         later = AllByRecursion-from_get (λ k. phase m.job k ≤ phase m.job n) J (λ i k at.
-            no_later_phase k (answered-in_journal m.job (answering m) o.path J i k legal at));
+            no_later_phase k (answered-in_journal i k legal at));
         legal = legal;
         fit = so_far.legal.fit o.path;
       }

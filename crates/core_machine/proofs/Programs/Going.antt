@@ -1,13 +1,10 @@
 -- Which clients go, and when the run is in a phase.
-use Rattle.std.proofs.Common.{◌≡◌, ℕ, ◌+◌, ◌<◌, ◌≤◌, Bool, true, false, cond, List, [], ◌∷◌, ◌++◌, suc, zero-add, Option, Some, None, slice_get, Contains, true≢false, eqb-true, refl, sym, ap, ◌∙◌, arith}
-use Rattle.std.specs.List.{filter, range_with_len}
-use Rattle.std.proofs.lemmas.Bool.{eq-eqb}
-use Rattle.std.proofs.lemmas.List.{append-nil}
-use Rattle.std.proofs.lemmas.List.Elements.{filter-append}
-use Rattle.std.proofs.lemmas.Option.{none-some, slice_get-get_or}
-use Rattle.fs_script.specs.Job.{Job, phase}
+use Rattle.fs_types.proofs.Common.{◌≡◌, ℕ, ◌+◌, ◌<◌, ◌≤◌, Bool, true, false, cond, List, [], ◌∷◌, ◌++◌, suc, zero-add, Option, Some, None}
+use Rattle.fs_types.proofs.Common.{slice_get, Contains, true≢false, eqb-true, refl, sym, ap, ◌∙◌, arith, filter, range_with_len, eq-eqb}
+use Rattle.fs_types.proofs.Common.{append-nil, filter-append, none-some, slice_get-get_or}
+use Rattle.fs_script.specs.Vocabulary.{Job, phase}
+use Rattle.core_machine.specs.Vocabulary.{Places, next_in, is_of_phase, going, IsInPhase}
 use Rattle.fs_script.proofs.CallerLemmas.{range-push, passes, passing-place}
-use Rattle.core_machine.specs.Turns.{Places, next_in, is_of_phase, going, IsInPhase}
 
 -- whether client r goes
 abbrev pub goes_in : Places → ℕ → Bool
@@ -19,8 +16,7 @@ pub record Goes (v : Places) (r n : ℕ) : Type 0 where
   pub of_phase : phase v.job n ≡ v.phase
 
 -- a line of a phase is one
-pub line-of_phase : (s : Job) (k : ℕ) (x : Option ℕ) → is_of_phase s k x ≡ true
-    → (n : ℕ) × (x ≡ Some n) × (phase s n ≡ k)
+pub line-of_phase : (s : Job) (k : ℕ) (x : Option ℕ) → is_of_phase s k x ≡ true → (n : ℕ) × (x ≡ Some n) × (phase s n ≡ k)
 line-of_phase s k None of = absurd (true≢false (sym of))
 line-of_phase s k (Some n) of = (n, refl, eqb-true (phase s n) k of)
 
@@ -32,18 +28,17 @@ Goes-from_Contains v r has =
     let line = line-of_phase v.job v.phase (next_in v r) passed.0 in
     (line.0, record { next = line.1; of_phase = line.2 })
 
-pub goes_in-true : (v : Places) (r n : ℕ) → Goes v r n → goes_in v r ≡ true
-goes_in-true v r n goes = ap (is_of_phase v.job v.phase) goes.next ∙ eq-eqb (phase v.job n) v.phase goes.of_phase
+pub goes_in-true : {v : Places} {r n : ℕ} → Goes v r n → goes_in v r ≡ true
+goes_in-true {v} {n} goes = ap (is_of_phase v.job v.phase) goes.next ∙ eq-eqb (phase v.job n) v.phase goes.of_phase
 
 -- where no client is ready none goes
-pub none-goes : (v : Places) (r n : ℕ) → going v ≡ [] → r < v.job.shape.clients → Goes v r n → ⊥
-none-goes v r n empty within goes =
-    let place = passing-place (goes_in v) 0 v.job.shape.clients r (goes_in-true v r n goes) (omega arith) (omega arith) in
+pub none-goes : {v : Places} {r n : ℕ} → going v ≡ [] → r < v.job.shape.clients → Goes v r n → ⊥
+none-goes {v} {r} {n} empty within goes =
+    let place = passing-place (goes_in v) 0 v.job.shape.clients r (goes_in-true goes) (omega arith) (omega arith) in
     none-some r (sym (ap (λ (rs : List ℕ). slice_get rs place.0) empty) ∙ place.1)
 
 -- the run is in a phase where some client goes and no next line is of an earlier one
-pub IsInPhase-from_some : (v : Places) → ((r n : ℕ) → next_in v r ≡ Some n → v.phase ≤ phase v.job n)
-    → (going v ≡ [] → ⊥) → IsInPhase v
+pub IsInPhase-from_some : (v : Places) → ((r n : ℕ) → next_in v r ≡ Some n → v.phase ≤ phase v.job n) → (going v ≡ [] → ⊥) → IsInPhase v
 IsInPhase-from_some v none_earlier some = record { none_earlier = none_earlier; none_left = λ empty. absurd (some empty) }
 
 -- ---- the clients one by one
@@ -55,8 +50,7 @@ module _ (test : ℕ → Bool) (n : ℕ) where
       let range = ap (range_with_len 0) longer ∙ sym (range-push 0 n) ∙ ap (λ m. range_with_len 0 n ++ m ∷ []) (zero-add n) in
       ap (filter test) range ∙ filter-append test (range_with_len 0 n) (n ∷ [])
 
-  pub clients-push : test n ≡ true
-      → filter test (range_with_len 0 (n + 1)) ≡ filter test (range_with_len 0 n) ++ n ∷ []
+  pub clients-push : test n ≡ true → filter test (range_with_len 0 (n + 1)) ≡ filter test (range_with_len 0 n) ++ n ∷ []
   clients-push passes = clients-more ∙ ap (λ b. filter test (range_with_len 0 n) ++ cond b (n ∷ []) []) passes
 
   pub clients-skip : test n ≡ false → filter test (range_with_len 0 (n + 1)) ≡ filter test (range_with_len 0 n)

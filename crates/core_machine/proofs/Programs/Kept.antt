@@ -1,18 +1,15 @@
 -- What is kept of the turns, where a client is ready and after its next line was answered.
-use Rattle.std.proofs.Common.{◌≡◌, ℕ, ◌+◌, ◌<◌, ◌≤◌, true, false, List, [], not, length, map, filter, get_or, Vec, Global, vec_capacity, Some, IsSome, is_some, slice_get, slice_index, Contains, refl, sym, ap, ◌∙◌, subst, inl, inr, arith}
-use Rattle.std.specs.Prelude.{◌==◌, slice_set}
-use Rattle.std.proofs.Math.Seq.{map-set_same}
-use Rattle.std.proofs.lemmas.Bool.{cases_eq}
-use Rattle.std.proofs.lemmas.List.{length-map, map-set, get_or-set_same, get_or-set_other}
-use Rattle.std.proofs.lemmas.Option.{same_Some, slice_get_read, slice_get_within}
-use Rattle.fs_script.specs.Job.{phase, program}
-use Rattle.core_machine.specs.declared.program.Program.{Program}
-use Rattle.core_machine.specs.declared.turns.Turns.TheInside.{Inside}
-use Rattle.core_machine.specs.Turns.{Places, next_in, is_of_phase, going, IsInPhase}
-use Rattle.core_machine.specs.Program.{IsLeast, next_of, next_phases, ArePrograms, places_of, IsKept}
+use Rattle.fs_types.proofs.Common.{◌≡◌, ℕ, ◌+◌, ◌<◌, ◌≤◌, true, false, List, [], not, length, map, filter, get_or, Vec, Global}
+use Rattle.fs_types.proofs.Common.{vec_capacity, Some, IsSome, is_some, slice_get, slice_index, Contains, refl, sym, ap, ◌∙◌, subst, inl}
+use Rattle.fs_types.proofs.Common.{inr, arith, ◌==◌, slice_set, map-set_same, cases_eq, length-map, map-set, get_or-set_same}
+use Rattle.fs_types.proofs.Common.{get_or-set_other, same_Some, slice_get_read, slice_get_within}
+use Rattle.fs_script.specs.Vocabulary.{phase, program}
+use Rattle.core_machine.specs.Vocabulary.{Program, Inside, Places, next_in, is_of_phase, going, IsInPhase, IsLeast, next_of, next_phases}
+use Rattle.core_machine.specs.Vocabulary.{after_line, ArePrograms, places_of, IsKept}
 use Rattle.core_machine.proofs.Programs.Going.{Goes, Goes-from_Contains, none-goes, IsInPhase-from_some}
-use Rattle.core_machine.proofs.Programs.NextLines.{next_in-within, length-programs, lines-at, place-at, next_of-read, Goes-least, going-least, IsInPhase-least, IsInPhase-none}
-use Rattle.core_machine.proofs.Programs.Advanced.{advanced, next_in-own, none_earlier-advanced, going-stays, going-leaves}
+use Rattle.core_machine.proofs.Programs.NextLines.{next_in-within, length-programs, lines-at, place-at, next_of-read, Goes-least}
+use Rattle.core_machine.proofs.Programs.NextLines.{going-least, IsInPhase-least, IsInPhase-none}
+use Rattle.core_machine.proofs.Programs.Advanced.{next_in-own, none_earlier-advanced, going-stays, going-leaves}
 
 -- ---- a client that is ready
 
@@ -96,7 +93,7 @@ module _ {t : Inside} {r : ℕ} {w : Places} {i : ℕ} {p q : Program} (advances
       let lines = λ (o : Program). o.lines.items in
       map-set_same lines t.programs.items r q p (lines-same ∙ ap lines advances.read) ∙ advances.ready.kept.programs
 
-  new-is : places_of t.script.now new t.phase ≡ advanced old r
+  new-is : places_of t.script.now new t.phase ≡ after_line old r
   new-is = ap (λ (xs : List ℕ). record { job = t.script.now; places = xs; phase = t.phase }) places-set
 
   within-new : (j : ℕ) → slice_index (map (λ p. p.place) new) j ≤ length (program t.script.now j)
@@ -112,21 +109,19 @@ module _ {t : Inside} {r : ℕ} {w : Places} {i : ℕ} {p q : Program} (advances
         omega (arith, advances.ready.kept.within j)
   ]
 
-  next-new : next_in (advanced old r) r ≡ next_of q
+  next-new : next_in (after_line old r) r ≡ next_of q
   next-new =
       let lines = lines-same ∙ lines-at t.script.now t.programs.items advances.ready.kept.programs r p at in
       next_in-own old r within ∙ ap (slice_get (program t.script.now r)) (sym place-new)
       ∙ ap (λ (ls : List ℕ). slice_get ls q.place) (sym lines)
 
-  none_earlier-new : (j m : ℕ) → next_in (places_of t.script.now new t.phase) j ≡ Some m
-      → t.phase ≤ phase t.script.now m
+  none_earlier-new : (j m : ℕ) → next_in (places_of t.script.now new t.phase) j ≡ Some m → t.phase ≤ phase t.script.now m
   none_earlier-new =
       let after = none_earlier-advanced old r line.0 within line.1 advances.ready.kept.phase in
       subst (λ v. (j m : ℕ) → next_in v j ≡ Some m → t.phase ≤ phase t.script.now m) (sym new-is) after
 
   -- what is left to know are the clients that go, and that the run is in the phase
-  IsKept-new : (k : ℕ) (rest : Vec ℕ Global) → rest.items ≡ going (places_of t.script.now new k)
-      → vec_capacity t.ready ≤ vec_capacity rest
+  IsKept-new : (k : ℕ) (rest : Vec ℕ Global) → rest.items ≡ going (places_of t.script.now new k) → vec_capacity t.ready ≤ vec_capacity rest
       → IsInPhase (places_of t.script.now new k) → IsKept t.script.now new k rest.items (vec_capacity rest)
   IsKept-new k rest ready enough in_phase = record {
     job = advances.ready.kept.job;
@@ -147,10 +142,10 @@ module _ {t : Inside} {r : ℕ} {w : Places} {i : ℕ} {p q : Program} (advances
 
   -- another phase begins, and these clients go in it
   module _ (k : ℕ) (least : IsLeast (next_phases t.script.now new) k) where
-    pub IsKept-begins : (rest : Vec ℕ Global) → rest.items ≡ going (places_of t.script.now new k)
-        → vec_capacity t.ready ≤ vec_capacity rest
+    pub IsKept-begins : (rest : Vec ℕ Global) → rest.items ≡ going (places_of t.script.now new k) → vec_capacity t.ready ≤ vec_capacity rest
         → IsKept t.script.now new k rest.items (vec_capacity rest)
-    IsKept-begins rest ready enough = IsKept-new k rest ready enough (IsInPhase-least t.script.now new are-new advances.ready.kept.job k least)
+    IsKept-begins rest ready enough = IsKept-new k rest ready enough
+        (IsInPhase-least t.script.now new are-new advances.ready.kept.job k least)
 
     pub some-begin : going (places_of t.script.now new k) ≡ [] → ⊥
     some-begin = going-least t.script.now new are-new advances.ready.kept.job k least
@@ -180,8 +175,7 @@ module _ {t : Inside} {r : ℕ} {w : Places} {i : ℕ} {p q : Program} {rest : V
       (IsInPhase-from_some (places_of t.script.now left t.phase) (none_earlier-new leaves.advances) (λ empty. some (others-go ∙ empty)))
 
   -- no client has a line left
-  pub IsKept-ends : next_phases t.script.now left ≡ []
-      → IsKept t.script.now left t.phase rest.items (vec_capacity rest)
+  pub IsKept-ends : next_phases t.script.now left ≡ [] → IsKept t.script.now left t.phase rest.items (vec_capacity rest)
   IsKept-ends none = IsKept-new leaves.advances t.phase rest others-go leaves.enough
       (IsInPhase-none t.script.now left (are-new leaves.advances) leaves.advances.ready.kept.job t.phase none)
 
@@ -195,6 +189,6 @@ module _ {t : Inside} {r : ℕ} {w : Places} {i : ℕ} {p q : Program} {rest : V
         | inl is ↦
             let v = places_of t.script.now left t.phase in
             let here : Goes v first.0 first.1 = record { next = first.3.next; of_phase = first.3.of_phase ∙ sym is } in
-            absurd (none-goes v first.0 first.1 (sym others-go ∙ empty) first.2 here)
+            absurd (none-goes (sym others-go ∙ empty) first.2 here)
         | inr other ↦ omega (arith, first.3.of_phase)
       ]

@@ -1,14 +1,10 @@
 -- The least of some numbers, and the phases of the lines that are done next.
-use Rattle.std.proofs.Common.{◌≡◌, ℕ, zero, suc, ◌<◌, ◌≤◌, List, [], ◌∷◌, length, min, fold, get_or, Option, Some, None, slice_get, Contains, refl, ap, ◌∙◌, inl, inr, arith}
-use Rattle.std.specs.Prelude.{IfNone, IfSome}
-use Rattle.std.specs.List.{AllByRecursion, reduce, filter_map, cons_option}
-use Rattle.std.specs.Option.{option_map}
-use Rattle.std.proofs.lemmas.Bool.{cases_lt}
-use Rattle.std.proofs.lemmas.Option.{none-some, same_Some, slice_get-get_or, slice_get_within, get_or_from_slice_get}
-use Rattle.std.proofs.lemmas.List.Elements.{All-from_recursion}
-use Rattle.fs_script.specs.Job.{Job, phase}
-use Rattle.core_machine.specs.declared.program.Program.{Program}
-use Rattle.core_machine.specs.Program.{IsLeast, next_of, next_phases}
+use Rattle.fs_types.proofs.Common.{◌≡◌, ℕ, zero, suc, ◌<◌, ◌≤◌, List, [], ◌∷◌, length, min, fold, get_or, Option, Some, None, slice_get}
+use Rattle.fs_types.proofs.Common.{Contains, refl, ap, ◌∙◌, inl, inr, arith, IfNone, IfSome, AllByRecursion, reduce, filter_map}
+use Rattle.fs_types.proofs.Common.{cons_option, option_map, cases_lt, none-some, same_Some, slice_get-get_or, slice_get_within}
+use Rattle.fs_types.proofs.Common.{get_or_from_slice_get, All-from_recursion}
+use Rattle.fs_script.specs.Vocabulary.{Job, phase}
+use Rattle.core_machine.specs.Vocabulary.{Program, IsLeast, next_of, next_phases}
 
 -- ---- the least number
 
@@ -20,8 +16,7 @@ fold-min-least : (a : ℕ) (xs : List ℕ) → AllByRecursion (λ x. fold min a 
 fold-min-least a [] = tt
 fold-min-least a (x ∷ xs) = (omega (arith, fold-min-le (min a x) xs), fold-min-least (min a x) xs)
 
-min-there : (a x : ℕ) (xs : List ℕ) (y k : ℕ) → k < suc (length xs) → get_or (min a x ∷ xs) k y ≡ y
-    → Contains (a ∷ x ∷ xs) y
+min-there : (a x : ℕ) (xs : List ℕ) (y k : ℕ) → k < suc (length xs) → get_or (min a x ∷ xs) k y ≡ y → Contains (a ∷ x ∷ xs) y
 min-there a x xs y zero lt is = elim (cases_lt x a) [
   | inl less ↦ (1, omega arith, omega arith)
   | inr other ↦ (0, omega arith, omega arith)
@@ -57,7 +52,8 @@ filter_map-at f (w ∷ ws) (suc i) x y at is =
       | Some v ↦ (suc later.0, later.1)
     ]
 
-module _ {X Y : Type 0} (f : X → Option Y) (w : X) (ws : List X) (y : Y) (later : (j : ℕ) → slice_get (filter_map f ws) j ≡ Some y → (i : ℕ) × (x : X) × (slice_get ws i ≡ Some x) × (f x ≡ Some y)) where
+module _ {X Y : Type 0} (f : X → Option Y) (w : X) (ws : List X) (y : Y) (later : (j : ℕ) → slice_get (filter_map f ws) j ≡ Some y
+    → (i : ℕ) × (x : X) × (slice_get ws i ≡ Some x) × (f x ≡ Some y)) where
   cons_option-from : (o : Option Y) (j : ℕ) → f w ≡ o → slice_get (cons_option o (filter_map f ws)) j ≡ Some y
       → (i : ℕ) × (x : X) × (slice_get (w ∷ ws) i ≡ Some x) × (f x ≡ Some y)
   cons_option-from None j gives at = let there = later j at in (suc there.0, there.1, there.2, there.3)
@@ -75,8 +71,11 @@ module _ (s : Job) (ps : List Program) where
   pub next_phases-at : (r : ℕ) (p : Program) (n : ℕ) → slice_get ps r ≡ Some p → next_of p ≡ Some n
       → Contains (next_phases s ps) (phase s n)
   next_phases-at r p n at next =
-      let there = filter_map-at (λ q. option_map (phase s) (next_of q)) ps r p (phase s n) at (ap (option_map (phase s)) next) in
-      (there.0, slice_get_within (next_phases s ps) there.0 (phase s n) there.1, get_or_from_slice_get (next_phases s ps) there.0 (phase s n) (phase s n) there.1)
+      let there = filter_map-at (λ q. option_map (phase s) (next_of q)) ps r p (phase s n) at (ap (option_map (phase s)) next) in (
+        there.0,
+        slice_get_within (next_phases s ps) there.0 (phase s n) there.1,
+        get_or_from_slice_get (next_phases s ps) there.0 (phase s n) (phase s n) there.1,
+      )
 
   phase-of : (x : Option ℕ) (k : ℕ) → option_map (phase s) x ≡ Some k → (n : ℕ) × (x ≡ Some n) × (phase s n ≡ k)
   phase-of None k is = absurd (none-some k is)

@@ -1,15 +1,11 @@
 -- The lines of the clients' programs, as the lines of the script come one by one.
-use Rattle.std.proofs.Common.{◌≡◌, ℕ, suc, ◌+◌, ◌-◌, ◌<◌, ◌≤◌, cond, List, [], ◌∷◌, ◌++◌, length, map, filter, get_or, set, replicate, Option, Some, None, refl, sym, ap, ◌∙◌, inl, inr, arith}
-use Rattle.std.specs.List.{range_with_len}
-use Rattle.std.proofs.lemmas.Bool.{cases_eq, eq-eqb, ne_eqb}
-use Rattle.std.proofs.lemmas.List.{length-replicate, get_or-replicate, get_or-map, map-set, length-set, get_or-set_same, get_or-set_other, append-nil}
-use Rattle.std.proofs.lemmas.List.Elements.{filter-append}
-use Rattle.std.proofs.lemmas.List.FromFn.{fill_by_all, get_or-map-range_with_len, length-map-range_with_len}
-use Rattle.fs_script.specs.declared.line.OpLine.{OpLine}
-use Rattle.fs_script.specs.Job.{Job, op_at, is_of_rank}
+use Rattle.fs_types.proofs.Common.{◌≡◌, ℕ, suc, ◌+◌, ◌-◌, ◌<◌, ◌≤◌, cond, List, [], ◌∷◌, ◌++◌, length, map, filter, get_or, set, replicate}
+use Rattle.fs_types.proofs.Common.{Option, Some, None, refl, sym, ap, ◌∙◌, inl, inr, arith, range_with_len, cases_eq, eq-eqb, ne_eqb}
+use Rattle.fs_types.proofs.Common.{length-replicate, get_or-replicate, get_or-map, map-set, length-set, get_or-set_same, get_or-set_other}
+use Rattle.fs_types.proofs.Common.{append-nil, filter-append, fill_by_all, get_or-map-range_with_len, length-map-range_with_len}
+use Rattle.fs_script.specs.Vocabulary.{Job, op_at, is_of_rank}
+use Rattle.core_machine.specs.Vocabulary.{OpLine, Program, with_program_line}
 use Rattle.fs_script.proofs.CallerLemmas.{range-push}
-use Rattle.core_machine.specs.declared.program.Program.{Program}
-use Rattle.core_machine.specs.Program.{with_program_line}
 
 -- of a client's program the lines before line n
 abbrev pub lines_before : Job → ℕ → ℕ → List ℕ
@@ -33,8 +29,7 @@ map-with_program_line n r o ps p q rank lt more =
     map-set lines ps r q ∙ ap (set (map lines ps) r) (more ∙ ap (λ (ns : List ℕ). ns ++ n ∷ []) (sym (get_or-map lines ps r p [] lt)))
     ∙ ap (λ i. set (map lines ps) i (get_or (map lines ps) i [] ++ n ∷ [])) rank
 
-length-with_program_line : (n : ℕ) (x : Option OpLine) (ls : List (List ℕ))
-    → length (with_program_line n x ls) ≡ length ls
+length-with_program_line : (n : ℕ) (x : Option OpLine) (ls : List (List ℕ)) → length (with_program_line n x ls) ≡ length ls
 length-with_program_line n None ls = refl
 length-with_program_line n (Some o) ls = length-set ls o.rank (get_or ls o.rank [] ++ n ∷ [])
 
@@ -49,20 +44,21 @@ with_program_line-at n (Some o) ls r lt = elim (cases_eq o.rank r) [
 ]
 
 -- with line n each program has its lines before line n + 1
-pub with_program_line-more : (s : Job) (n : ℕ) (ls : List (List ℕ)) → 2 ≤ n
-    → ls ≡ map (lines_before s n) (range_with_len 0 s.shape.clients)
+pub with_program_line-more : (s : Job) (n : ℕ) (ls : List (List ℕ)) → 2 ≤ n → ls ≡ map (lines_before s n) (range_with_len 0 s.shape.clients)
     → with_program_line n (op_at s n) ls ≡ map (lines_before s (n + 1)) (range_with_len 0 s.shape.clients)
 with_program_line-more s n ls from is =
     let clients = s.shape.clients in
     let before = map (lines_before s n) (range_with_len 0 clients) in
     let sized = length-map-range_with_len (lines_before s n) 0 clients in
     let now = with_program_line n (op_at s n) before in
-    let each : (r : ℕ) → r < clients → get_or now r [] ≡ lines_before s (n + 1) r = λ r lt. (let was = get_or-map-range_with_len (lines_before s n) 0 clients r r [] lt (omega arith) in
+    let each : (r : ℕ) → r < clients → get_or now r [] ≡ lines_before s (n + 1) r =
+    λ r lt. (let was = get_or-map-range_with_len (lines_before s n) 0 clients r r [] lt (omega arith) in
     with_program_line-at n (op_at s n) before r (omega arith) ∙ rw was (sym (lines_before-more s n r from))) in
-    ap (with_program_line n (op_at s n)) is ∙ fill_by_all (lines_before s (n + 1)) now clients [] (length-with_program_line n (op_at s n) before ∙ sized) each
+    ap (with_program_line n (op_at s n)) is ∙ fill_by_all (lines_before s (n + 1)) now clients []
+    (length-with_program_line n (op_at s n) before ∙ sized) each
 
 -- before the first line each is empty
-pub map-lines_before-first : (s : Job) (clients : ℕ)
-    → replicate clients [] ≡ map (lines_before s 2) (range_with_len 0 clients)
+pub map-lines_before-first : (s : Job) (clients : ℕ) → replicate clients [] ≡ map (lines_before s 2) (range_with_len 0 clients)
 map-lines_before-first s clients =
-    fill_by_all (lines_before s 2) (replicate clients []) clients [] (length-replicate clients []) (λ r lt. get_or-replicate clients r [] [] lt)
+    fill_by_all (lines_before s 2) (replicate clients []) clients [] (length-replicate clients [])
+    (λ r lt. get_or-replicate clients r [] [] lt)

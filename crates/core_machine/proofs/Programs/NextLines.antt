@@ -1,18 +1,12 @@
 -- What the programs that are kept say of the lines that come next, and of their phases.
-use Rattle.std.proofs.Common.{◌≡◌, ℕ, ◌<◌, ◌≤◌, List, [], length, map, get_or, Option, Some, None, slice_get, slice_index, Contains, refl, sym, ap, ◌∙◌, subst, zero-add, inl, inr, arith}
-use Rattle.std.specs.Prelude.{IfNone, IfSome, unwrap_or}
-use Rattle.std.specs.List.{range_with_len}
-use Rattle.std.specs.Option.{option_map}
-use Rattle.std.proofs.lemmas.List.{length-map}
-use Rattle.std.proofs.lemmas.List.Elements.{All-contains}
-use Rattle.std.proofs.lemmas.List.FromFn.{length-map-range_with_len}
-use Rattle.std.proofs.lemmas.Option.{same_Some, slice_get-map, slice_get_within, slice_get_cases, slice_get_read, get_or_from_slice_get}
-use Rattle.fs_script.specs.Job.{Job, phase, program}
+use Rattle.fs_types.proofs.Common.{◌≡◌, ℕ, ◌<◌, ◌≤◌, List, [], length, map, get_or, Option, Some, None, slice_get, slice_index, Contains}
+use Rattle.fs_types.proofs.Common.{refl, sym, ap, ◌∙◌, subst, zero-add, inl, inr, arith, IfNone, IfSome, unwrap_or, range_with_len}
+use Rattle.fs_types.proofs.Common.{option_map, length-map, All-contains, length-map-range_with_len, same_Some, slice_get-map}
+use Rattle.fs_types.proofs.Common.{slice_get_within, slice_get_cases, slice_get_read, get_or_from_slice_get}
+use Rattle.fs_script.specs.Vocabulary.{Job, phase, program}
+use Rattle.core_machine.specs.Vocabulary.{Program, HasClients, Places, next_in, going, IsInPhase, IsLeast, next_of, next_phases}
+use Rattle.core_machine.specs.Vocabulary.{ArePrograms, places_of}
 use Rattle.fs_script.proofs.CallerLemmas.{slice_get-range, program-op}
-use Rattle.core_machine.specs.declared.program.Program.{Program}
-use Rattle.core_machine.specs.LegalSoFar.{HasClients}
-use Rattle.core_machine.specs.Turns.{Places, next_in, going, IsInPhase}
-use Rattle.core_machine.specs.Program.{IsLeast, next_of, next_phases, ArePrograms, places_of}
 use Rattle.core_machine.proofs.Programs.LeastPhase.{next_phases-at, next_phases-from}
 use Rattle.core_machine.proofs.Programs.Going.{Goes, none-goes, IsInPhase-from_some}
 
@@ -28,8 +22,7 @@ none-from (Some n) never = absurd (never n refl)
 
 module _ (s : Job) (ps : List Program) (are : ArePrograms s ps) where
   pub length-programs : length ps ≡ s.shape.clients
-  length-programs =
-      sym (length-map ps (λ p. p.lines.items)) ∙ ap length are ∙ length-map-range_with_len (program s) 0 s.shape.clients
+  length-programs = sym (length-map ps (λ p. p.lines.items)) ∙ ap length are ∙ length-map-range_with_len (program s) 0 s.shape.clients
 
   program-at : (r : ℕ) → r < s.shape.clients → (p : Program) × (slice_get ps r ≡ Some p)
   program-at r lt = elim (slice_get_cases ps r).1 [
@@ -59,8 +52,7 @@ module _ (s : Job) (ps : List Program) (are : ArePrograms s ps) where
     next_of-at k = ap (λ (ls : List ℕ). slice_get ls p.place) lines-at ∙ ap (slice_get (program s r)) (sym place-at)
 
   -- also of a program that was read at the client's place
-  pub next_of-read : (k r : ℕ) (p : Program) → r < length ps → p ≡ get_or ps r p
-      → next_of p ≡ next_in (places_of s ps k) r
+  pub next_of-read : (k r : ℕ) (p : Program) → r < length ps → p ≡ get_or ps r p → next_of p ≡ next_in (places_of s ps k) r
   next_of-read k r p lt read = next_of-at r p (slice_get_read ps (length ps) r p refl lt read) k
 
   module _ (job : HasClients s) (k : ℕ) where
@@ -72,7 +64,10 @@ module _ (s : Job) (ps : List Program) (are : ArePrograms s ps) where
     -- where no line comes next the run may be in any phase
     pub IsInPhase-none : next_phases s ps ≡ [] → IsInPhase (places_of s ps k)
     IsInPhase-none none =
-        record { none_earlier = λ r n next. absurd (never r n next); none_left = λ empty r lt. none-from (next_in (places_of s ps k) r) (never r) }
+        record {
+          none_earlier = λ r n next. absurd (never r n next);
+          none_left = λ empty r lt. none-from (next_in (places_of s ps k) r) (never r);
+        }
       where
         never : (r n : ℕ) → next_in (places_of s ps k) r ≡ Some n → ⊥
         never r n next = (let there = next-phase r n next in let short = ap length none in omega (arith, there.1))
@@ -87,22 +82,20 @@ module _ (s : Job) (ps : List Program) (are : ArePrograms s ps) where
           (from.0, from.2, program-within from.0 from.1 from.3, record { next = next; of_phase = from.5 })
 
       pub going-least : going (places_of s ps k) ≡ [] → ⊥
-      going-least empty = none-goes (places_of s ps k) Goes-least.0 Goes-least.1 empty Goes-least.2 Goes-least.3
+      going-least empty = none-goes empty Goes-least.2 Goes-least.3
 
       pub IsInPhase-least : IsInPhase (places_of s ps k)
       IsInPhase-least = IsInPhase-from_some (places_of s ps k)
           (λ r n next. All-contains (λ x. k ≤ x) (next_phases s ps) (phase s n) least.least (next-phase r n next)) going-least
 
   -- before the first answer the run is in the least phase of the first lines
-  pub IsInPhase-first : (o : Option ℕ) → HasClients s → IfNone o (next_phases s ps ≡ [])
-      → IfSome o (IsLeast (next_phases s ps))
+  pub IsInPhase-first : (o : Option ℕ) → HasClients s → IfNone o (next_phases s ps ≡ []) → IfSome o (IsLeast (next_phases s ps))
       → IsInPhase (places_of s ps (unwrap_or o 0))
   IsInPhase-first None job none least = IsInPhase-none job 0 none
   IsInPhase-first (Some k) job none least = IsInPhase-least job k least
 
   -- and in phase 0 where there is none
-  pub phase-first : (o : Option ℕ) → HasClients s → IfSome o (IsLeast (next_phases s ps))
-      → going (places_of s ps (unwrap_or o 0)) ≡ []
+  pub phase-first : (o : Option ℕ) → HasClients s → IfSome o (IsLeast (next_phases s ps)) → going (places_of s ps (unwrap_or o 0)) ≡ []
       → unwrap_or o 0 ≡ 0
   phase-first None job least empty = refl
   phase-first (Some k) job least empty = absurd (going-least job k least empty)

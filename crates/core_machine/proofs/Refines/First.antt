@@ -1,33 +1,18 @@
 -- What is kept before the first event, and that the moment it stands for is the first.
-use Rattle.std.proofs.Common.{◌≡◌, ℕ, zero, suc, ◌+◌, false, List, [], ◌∷◌, length, map, is_some, slice_index, All, true≢false, refl, sym, ap, subst, ◌∙◌, arith}
-use Rattle.std.specs.Prelude.{zip, replicate}
-use Rattle.std.specs.List.{AllByRecursion}
-use Rattle.std.proofs.lemmas.Bool.{le-ltb}
-use Rattle.std.proofs.lemmas.List.{length-map, length-replicate, get_or-replicate}
-use Rattle.std.proofs.lemmas.List.Elements.{recursion_from_All}
-use Rattle.std.proofs.lemmas.Slice.Zip.{firsts-zip}
-use Rattle.std.proofs.lemmas.Option.{slice_get_within, get_or_from_slice_get}
-use Rattle.fs_types.specs.AnswerList.{Given, answer_at}
-use Rattle.fs_script.specs.Job.{Job}
-use Rattle.fs_script.specs.Pending.{Answering}
-use Rattle.fs_script.specs.Report.{ArePaths}
-use Rattle.core_machine.specs.declared.path_state.OwnedPath.{OwnedPath}
-use Rattle.core_machine.specs.declared.path_state.ClientPath.{ClientPath}
-use Rattle.core_machine.specs.declared.path_state.PathState.{PathState}
-use Rattle.core_machine.specs.Kept.{IsFreshOwner, IsFreshClient, IsFreshPath}
-use Rattle.core_machine.specs.LegalSoFar.{HasClients}
-use Rattle.core_machine.specs.Moment.{IsFirst}
-use Rattle.core_machine.specs.Turns.{Places}
-use Rattle.core_machine.specs.MomentKept.{client_at, moment_of}
-use Rattle.core_machine.specs.Standing.{Holds, Stands, StandsForOwner, StandsForClient, end_of}
-use Rattle.core_machine.proofs.Refines.Answers.{pending-until, seen-until, is_open-until}
+use Rattle.fs_types.proofs.Common.{◌≡◌, ℕ, zero, suc, ◌+◌, false, List, [], ◌∷◌, length, map, is_some, slice_index, All, true≢false, refl}
+use Rattle.fs_types.proofs.Common.{sym, ap, subst, ◌∙◌, arith, zip, replicate, AllByRecursion, le-ltb, length-map, length-replicate}
+use Rattle.fs_types.proofs.Common.{get_or-replicate, recursion_from_All, firsts-zip, slice_get_within, get_or_from_slice_get}
+use Rattle.fs_script.specs.Vocabulary.{Given, answer_at, Job, Answering, ArePaths}
+use Rattle.core_machine.specs.Vocabulary.{OwnedPath, ClientPath, PathState, IsFreshOwner, IsFreshClient, IsFreshPath, HasClients, IsFirst}
+use Rattle.core_machine.specs.Vocabulary.{Places, client_at, moment_of, Holds, Stands, StandsForOwner, StandsForClient, end_of}
+use Rattle.core_machine.proofs.Refines.Answers.{over_answers-until}
 use Rattle.core_machine.proofs.Refines.Journals.{journal_kept}
 
 abbrev none : Answering
 none = answer_at []
 
-owner-fresh : (s : Job) (now : ℕ) (x : OwnedPath) → IsFreshOwner x → StandsForOwner s none now x
-owner-fresh s now x fresh = record {
+owner-fresh : (s : Job) (now : ℕ) {x : OwnedPath} → IsFreshOwner x → StandsForOwner s none now x
+owner-fresh s now fresh = record {
   answered = rw fresh.journal tt;
   written = rw fresh.file tt;
   file = rw (fresh.journal, fresh.file) refl;
@@ -35,27 +20,31 @@ owner-fresh s now x fresh = record {
   known = rw (fresh.journal, fresh.board) refl;
 }
 
-client-fresh : (s : Job) (r : ℕ) (p : List ℕ) (x : OwnedPath) (k : ClientPath) → IsFreshOwner x → IsFreshClient k → StandsForClient s none r p x k
-client-fresh s r p x k owned fresh = record {
-  opened = fresh.is_open ∙ sym (is_open-until s r p none 0 (end_of s) (omega arith) (λ _ _ _. refl));
-  pending = rw fresh.pending refl ∙ sym (pending-until s r p none 0 (end_of s) (omega arith) (λ _ _ _. refl));
+client-fresh : (s : Job) (r : ℕ) (p : List ℕ) {x : OwnedPath} {k : ClientPath} → IsFreshOwner x → IsFreshClient k
+    → StandsForClient s none r p x k
+client-fresh s r p owned fresh = record {
+  opened = fresh.is_open ∙ sym (over_answers-until _ _ s r p none 0 (end_of s) (omega arith) (λ _ _ _. refl));
+  pending = rw fresh.pending refl ∙ sym (over_answers-until _ _ s r p none 0 (end_of s) (omega arith) (λ _ _ _. refl));
   extents = rw fresh.pending tt;
-  seen = ap (λ n. n.version) fresh.noted ∙ sym (seen-until s r p none 0 (end_of s) (omega arith) (λ _ _ _. refl));
+  seen = ap (λ n. n.version) fresh.noted ∙ sym (over_answers-until _ _ s r p none 0 (end_of s) (omega arith) (λ _ _ _. refl));
   within = (let start = ap (λ n. n.version) fresh.noted in omega arith);
   known = rw (owned.journal, fresh.noted) refl;
 }
 
-path-fresh : (s : Job) (now : ℕ) (p : List ℕ) (x : PathState) → IsFreshPath s.shape.clients x → Stands s none now p x
-path-fresh s now p x fresh = record {
-  owned = owner-fresh s now x.owned fresh.owned;
+path-fresh : (s : Job) (now : ℕ) (p : List ℕ) {x : PathState} → IsFreshPath s.shape.clients x → Stands s none now p x
+path-fresh s now p {x} fresh = record {
+  owned = owner-fresh s now fresh.owned;
   sized = fresh.sized;
-  clients = λ r k at. client-fresh s r p x.owned k fresh.owned (subst IsFreshClient (get_or_from_slice_get x.clients.items r k k at) (fresh.clients r k (slice_get_within x.clients.items r k at)));
+  clients = λ r k at. client-fresh s r p fresh.owned (subst IsFreshClient (get_or_from_slice_get x.clients.items r k k at)
+      (fresh.clients r k (slice_get_within x.clients.items r k at)));
 }
 
 -- nothing is kept yet, and that stands for no answers
-pub Holds-first : (s : Job) (paths : List (List ℕ)) (states : List PathState) (answers : Given) (turns : Places) → HasClients s → ArePaths s paths → length states ≡ length paths
-    → All (IsFreshPath s.shape.clients) states → answers.list ≡ [] → answers.lines ≡ length s.lines + 1 → turns.job ≡ s → turns.places ≡ replicate s.shape.clients 0 → Holds s paths states answers turns
-Holds-first s paths states answers turns job named sized fresh empty room same places = record {
+pub Holds-first : {s : Job} {paths : List (List ℕ)} (states : List PathState) (answers : Given) (turns : Places) → HasClients s
+    → ArePaths s paths → length states ≡ length paths
+    → All (IsFreshPath s.shape.clients) states → answers.list ≡ [] → answers.lines ≡ length s.lines + 1 → turns.job ≡ s
+    → turns.places ≡ replicate s.shape.clients 0 → Holds s paths states answers turns
+Holds-first {s} states answers turns job named sized fresh empty room same places = record {
   job = job;
   same = same;
   named = named;
@@ -67,10 +56,12 @@ Holds-first s paths states answers turns job named sized fresh empty room same p
       ap is_some (ap (λ xs. answer_at xs n) empty) ∙ sym (le-ltb k (slice_index turns.places r) (omega arith));
   past = λ m given. absurd (true≢false (sym given ∙ ap is_some (ap (λ xs. answer_at xs m) empty)));
   each = λ i p x at there. subst (λ xs. Stands s (answer_at xs) turns.phase p x) (sym empty)
-      (path-fresh s turns.phase p x (subst (IsFreshPath s.shape.clients) (get_or_from_slice_get states i x x there) (fresh i x (slice_get_within states i x there))));
+      (path-fresh s turns.phase p (subst (IsFreshPath s.shape.clients) (get_or_from_slice_get states i x x there)
+      (fresh i x (slice_get_within states i x there))));
 }
 
-fresh-journals : (clients : ℕ) (ps : List (List ℕ)) (xs : List PathState) → AllByRecursion (IsFreshPath clients) xs → AllByRecursion (λ j. j.1 ≡ []) (zip ps (map journal_kept xs))
+fresh-journals : (clients : ℕ) (ps : List (List ℕ)) (xs : List PathState) → AllByRecursion (IsFreshPath clients) xs
+    → AllByRecursion (λ j. j.1 ≡ []) (zip ps (map journal_kept xs))
 fresh-journals clients [] xs fresh = tt
 fresh-journals clients (p ∷ ps) [] fresh = tt
 fresh-journals clients (p ∷ ps) (x ∷ xs) fresh = (fresh.0.owned.journal, fresh-journals clients ps xs fresh.1)
@@ -80,9 +71,11 @@ map-replicate zero = refl
 map-replicate (suc n) = ap (λ cs. client_at 0 ∷ cs) (map-replicate n)
 
 -- the moment that it stands for is the first
-pub IsFirst-first : (s : Job) (paths : List (List ℕ)) (states : List PathState) (answers : Given) (turns : Places) → ArePaths s paths → length states ≡ length paths
-    → All (IsFreshPath s.shape.clients) states → answers.list ≡ [] → turns.places ≡ replicate s.shape.clients 0 → IsFirst s (moment_of s paths states answers turns false)
-IsFirst-first s paths states answers turns named sized fresh empty places = record {
+pub IsFirst-first : {s : Job} {paths : List (List ℕ)} (states : List PathState) (answers : Given) (turns : Places) → ArePaths s paths
+    → length states ≡ length paths
+    → All (IsFreshPath s.shape.clients) states → answers.list ≡ [] → turns.places ≡ replicate s.shape.clients 0
+    → IsFirst s (moment_of s paths states answers turns false)
+IsFirst-first {s} {paths} states answers turns named sized fresh empty places = record {
   job = refl;
   clients = ap (map client_at) places ∙ map-replicate s.shape.clients;
   answers = empty;

@@ -1,17 +1,9 @@
 -- The journals that are kept, as one path's state is changed.
-use Rattle.std.proofs.Common.{◌≡◌, ℕ, zero, suc, ◌<◌, Bool, true, false, cond, List, [], ◌∷◌, ◌++◌, length, set, get_or, map, Some, refl, sym, ap, subst, ◌∙◌, arith}
-use Rattle.std.specs.Prelude.{zip}
-use Rattle.std.specs.List.{slice_get, AllByRecursion}
-use Rattle.std.specs.Str.{bytes_eq}
-use Rattle.std.specs.Ordering.{nat_cmp, is_lt}
-use Rattle.std.specs.Cmp.Lexicographic.{slice_cmp}
-use Rattle.std.specs.Option.{option_map}
-use Rattle.std.proofs.lemmas.List.{map-set, set-get_or}
-use Rattle.std.proofs.lemmas.Option.{same_Some, slice_get-get_or, slice_get-map, get_or_from_slice_get}
-use Rattle.fs_script.specs.Report.{AreRising}
-use Rattle.core_machine.specs.declared.path_state.PathState.{PathState}
-use Rattle.core_machine.specs.Moment.{with_entry}
-use Rattle.core_machine.specs.MomentKept.{journals_of}
+use Rattle.fs_types.proofs.Common.{firsts-zip, length-map, ◌≡◌, ℕ, zero, suc, ◌<◌, Bool, true, false, cond, List, [], ◌∷◌, ◌++◌, length}
+use Rattle.fs_types.proofs.Common.{set, map, Some, refl, sym, ap, subst, ◌∙◌, arith, zip, slice_get, AllByRecursion, bytes_eq, nat_cmp}
+use Rattle.fs_types.proofs.Common.{is_lt, slice_cmp, option_map, map-set, set-get_or, same_Some, slice_get-map, get_or_from_slice_get}
+use Rattle.fs_script.specs.Vocabulary.{AreRising}
+use Rattle.core_machine.specs.Vocabulary.{PathState, with_entry, journals_of}
 use Rattle.core_machine.proofs.Paths.{not_among, same_bytes, other_bytes}
 use Rattle.core_machine.proofs.Refines.Owners.{grown}
 
@@ -30,34 +22,30 @@ module _ {X : Type 0} where
   slice_get-set_other (x ∷ xs) (suc i) zero y differ = refl
   slice_get-set_other (x ∷ xs) (suc i) (suc j) y differ = slice_get-set_other xs i j y (λ e. differ (ap suc e))
 
-  pub set-same : (xs : List X) (i : ℕ) (x : X) → slice_get xs i ≡ Some x → set xs i x ≡ xs
-  set-same xs i x is = ap (set xs i) (sym (get_or_from_slice_get xs i x x is)) ∙ set-get_or xs i x
-
-  pub slice_get-map_some : {Y : Type 0} (f : X → Y) (xs : List X) (i : ℕ) (x : X) → slice_get xs i ≡ Some x → slice_get (map f xs) i ≡ Some (f x)
+  pub slice_get-map_some : {Y : Type 0} (f : X → Y) (xs : List X) (i : ℕ) (x : X) → slice_get xs i ≡ Some x
+      → slice_get (map f xs) i ≡ Some (f x)
   slice_get-map_some f xs i x is = slice_get-map f xs i ∙ ap (option_map f) is
-
--- what was read at a place stands there
-pub slice_get-read : {X : Type 0} (xs : List X) (i : ℕ) (x : X) → i < length xs → x ≡ get_or xs i x → slice_get xs i ≡ Some x
-slice_get-read xs i x lt is = slice_get-get_or xs i x lt ∙ ap Some (sym is)
 
 -- ---- journals beside their paths
 
 -- paths that come after p keep their journals as p gets a line
-with_entry-behind : (p : List ℕ) (n : ℕ) (ps js : List (List ℕ)) → AllByRecursion (λ q. is_lt (slice_cmp nat_cmp p q) ≡ true) ps → with_entry p n (zip ps js) ≡ zip ps js
+with_entry-behind : (p : List ℕ) (n : ℕ) (ps js : List (List ℕ)) → AllByRecursion (λ q. is_lt (slice_cmp nat_cmp p q) ≡ true) ps
+    → with_entry p n (zip ps js) ≡ zip ps js
 with_entry-behind p n [] js behind = refl
 with_entry-behind p n (q ∷ qs) [] behind = refl
 with_entry-behind p n (q ∷ qs) (k ∷ ks) behind =
     let other : bytes_eq q p ≡ false = other_bytes q p (λ e. not_among p (q ∷ qs) 0 behind (ap Some e)) in
     rw other (ap (λ rest. (q, k) ∷ rest) (with_entry-behind p n qs ks behind.1))
 
-with_entry-zip : (p : List ℕ) (n : ℕ) (ps js : List (List ℕ)) (i : ℕ) (j : List ℕ) → AreRising ps → slice_get ps i ≡ Some p → slice_get js i ≡ Some j
-    → with_entry p n (zip ps js) ≡ zip ps (set js i (j ++ n ∷ []))
+with_entry-zip : (p : List ℕ) (n : ℕ) (ps js : List (List ℕ)) (i : ℕ) (j : List ℕ) → AreRising ps → slice_get ps i ≡ Some p
+    → slice_get js i ≡ Some j → with_entry p n (zip ps js) ≡ zip ps (set js i (j ++ n ∷ []))
 with_entry-zip p n [] js i j rising at is = absurd cc
 with_entry-zip p n (q ∷ qs) [] i j rising at is = absurd cc
 with_entry-zip p n (q ∷ qs) (k ∷ ks) zero j rising at is =
     let here : q ≡ p = same_Some q p at in
     let behind = subst (λ (w : List ℕ). AllByRecursion (λ r. is_lt (slice_cmp nat_cmp w r) ≡ true) qs) here rising.0 in
-    rw (same_bytes q p here) (ap (λ rest. (q, k ++ n ∷ []) ∷ rest) (with_entry-behind p n qs ks behind) ∙ ap (λ (l : List ℕ). (q, l ++ n ∷ []) ∷ zip qs ks) (same_Some k j is))
+    rw (same_bytes q p here) (ap (λ rest. (q, k ++ n ∷ []) ∷ rest) (with_entry-behind p n qs ks behind)
+    ∙ ap (λ (l : List ℕ). (q, l ++ n ∷ []) ∷ zip qs ks) (same_Some k j is))
 with_entry-zip p n (q ∷ qs) (k ∷ ks) (suc i) j rising at is =
     let other : bytes_eq q p ≡ false = other_bytes q p (λ e. not_among q qs i rising.0 (at ∙ ap Some (sym e))) in
     rw other (ap (λ rest. (q, k) ∷ rest) (with_entry-zip p n qs ks i j rising.1 at is))
@@ -66,11 +54,17 @@ abbrev pub journal_kept : PathState → List ℕ
 journal_kept x = x.owned.journal.items
 
 -- the journals that are kept, as the place of the line's path is changed
-pub journals_of-set : (paths : List (List ℕ)) (states : List PathState) (p : List ℕ) (n i : ℕ) (x y : PathState) (commits : Bool) → AreRising paths → slice_get paths i ≡ Some p → slice_get states i ≡ Some x
-    → journal_kept y ≡ grown (journal_kept x) n commits → journals_of paths (set states i y) ≡ cond commits (with_entry p n (journals_of paths states)) (journals_of paths states)
+pub journals_of-set : (paths : List (List ℕ)) (states : List PathState) (p : List ℕ) (n i : ℕ) (x y : PathState) (commits : Bool)
+    → AreRising paths → slice_get paths i ≡ Some p → slice_get states i ≡ Some x
+    → journal_kept y ≡ grown (journal_kept x) n commits → journals_of paths (set states i y)
+    ≡ cond commits (with_entry p n (journals_of paths states)) (journals_of paths states)
 journals_of-set paths states p n i x y true rising at is grows =
     ap (zip paths) (map-set journal_kept states i y) ∙ ap (λ (j : List ℕ). zip paths (set (map journal_kept states) i j)) grows
     ∙ sym (with_entry-zip p n paths (map journal_kept states) i (journal_kept x) rising at (slice_get-map_some journal_kept states i x is))
 journals_of-set paths states p n i x y false rising at is grows =
     ap (zip paths) (map-set journal_kept states i y) ∙ ap (λ (j : List ℕ). zip paths (set (map journal_kept states) i j)) grows
-    ∙ ap (zip paths) (set-same (map journal_kept states) i (journal_kept x) (slice_get-map_some journal_kept states i x is))
+    ∙ ap (zip paths) (ap (set (map journal_kept states) i)
+    (sym (get_or_from_slice_get (map journal_kept states) i (journal_kept x) (journal_kept x)
+    (slice_get-map_some journal_kept states i x is))) ∙ set-get_or (map journal_kept states) i (journal_kept x))
+
+pub ruleset paths_beside = (firsts-zip, length-map)

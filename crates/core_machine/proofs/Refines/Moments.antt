@@ -1,21 +1,11 @@
 -- The moment that is kept after a line was answered is the machine's next one.
-use Rattle.std.proofs.Common.{◌≡◌, ℕ, ◌+◌, false, List, set, get_or, map, Some, slice_index, refl, sym, ap, ◌∙◌}
-use Rattle.std.specs.List.{slice_get}
 use Rattle.std.proofs.Math.ListN.{get_or-map}
-use Rattle.fs_types.specs.declared.answer.Answer.{Answer}
-use Rattle.fs_types.specs.AnswerList.{Given, put_answer}
-use Rattle.fs_script.specs.Job.{Job, program}
-use Rattle.fs_script.specs.Report.{journal_of}
-use Rattle.core_machine.specs.declared.path_state.PathState.{PathState}
-use Rattle.core_machine.specs.Doing.{nothing}
-use Rattle.core_machine.specs.Moment.{Client, Moment, fresh_client, client_of, next_line}
-use Rattle.core_machine.specs.Event.{Event, PathNow}
-use Rattle.core_machine.specs.Step.{event_of, event_at, with_answer, after_turn, after_event, step, step_at, step_line, path_now}
-use Rattle.core_machine.specs.Follows.{kept_event}
-use Rattle.core_machine.specs.Turns.{Places}
-use Rattle.core_machine.specs.MomentKept.{client_at, journals_of, moment_of, after_line}
+use Rattle.fs_types.proofs.Common.{◌≡◌, ℕ, ◌+◌, false, List, set, get_or, map, Some, slice_index, refl, sym, ap, ◌∙◌, slice_get, map-set}
+use Rattle.fs_script.specs.Vocabulary.{Answer, Given, put_answer, Job, program, journal_of}
+use Rattle.core_machine.specs.Vocabulary.{PathState, Client, Moment, fresh_client, client_of, next_line, Event, PathNow, event_of, event_at}
+use Rattle.core_machine.specs.Vocabulary.{with_answer, after_turn, after_event, step, step_at, step_line, path_now, kept_event, Places}
+use Rattle.core_machine.specs.Vocabulary.{client_at, journals_of, moment_of, after_line}
 use Rattle.core_machine.proofs.Paths.{journal_of-zip}
-use Rattle.std.proofs.lemmas.List.{map-set}
 use Rattle.core_machine.proofs.Refines.Journals.{slice_get-map_some, journal_kept, journals_of-set}
 use Rattle.core_machine.proofs.Refines.Now.{kept_now-is}
 use Rattle.core_machine.proofs.Refines.Steps.{Answered, given, is_own, stood, client_stood}
@@ -25,9 +15,6 @@ use Rattle.core_machine.proofs.Refines.Steps.{Answered, given, is_own, stood, cl
 pub client_of-places : (places : List ℕ) (r : ℕ) → get_or (map client_at places) r fresh_client ≡ client_at (slice_index places r)
 client_of-places places r = get_or-map client_at places r 0
 
-after_turn-answered : (place : ℕ) (a : Answer) (e : Event) → e.answer ≡ Some a → e.doing ≡ nothing → after_turn (client_at place) e ≡ client_at (place + 1)
-after_turn-answered place a e answered doing = rw (answered, doing) refl
-
 abbrev going_on : Job → List Client → List (ℕ × Answer) → List (List ℕ × List ℕ) → Moment
 going_on s cs xs js = record { job = s; clients = cs; answers = xs; journals = js; spent = false }
 
@@ -35,7 +22,8 @@ same_moment : (s : Job) (cs ds : List Client) (xs ys : List (ℕ × Answer)) (js
     → going_on s cs xs js ≡ going_on s ds ys ks
 same_moment s cs ds xs ys js ks c x j i = going_on s (c i) (x i) (j i)
 
-module _ {s : Job} {paths : List (List ℕ)} {states : List PathState} {answers : Given} {turns : Places} {r : ℕ} (t : Answered s paths states answers turns r) where
+module _ {s : Job} {paths : List (List ℕ)} {states : List PathState} {answers : Given} {turns : Places} {r : ℕ}
+    (t : Answered s paths states answers turns r) where
   abbrev before : Moment
   before = moment_of s paths states answers turns false
 
@@ -45,22 +33,25 @@ module _ {s : Job} {paths : List (List ℕ)} {states : List PathState} {answers 
   -- the event sees what is kept
   event-is : event_at before t.number t.line ≡ kept
   event-is =
-      let J : journal_of (journals_of paths states) t.line.path ≡ t.was.owned.journal.items = journal_of-zip paths (map journal_kept states) t.place t.line.path (journal_kept t.was) t.held.named.rising t.at (slice_get-map_some journal_kept states t.place t.was t.there) in
+      let J : journal_of (journals_of paths states) t.line.path ≡ t.was.owned.journal.items =
+      journal_of-zip paths (map journal_kept states) t.place t.line.path (journal_kept t.was) t.held.named.rising t.at
+      (slice_get-map_some journal_kept states t.place t.was t.there) in
       ap (λ (j : List ℕ). event_of s.shape.chunk (path_now s (given t) j t.number t.line) t.line.op) J
-      ∙ ap (λ (w : PathNow). event_of s.shape.chunk w t.line.op) (sym (kept_now-is s (given t) turns.phase t.number t.line t.was.owned t.client t.now (is_own t) (stood t).owned (client_stood t)))
+      ∙ ap (λ (w : PathNow). event_of s.shape.chunk w t.line.op) (sym (kept_now-is t.now (is_own t) (stood t).owned (client_stood t)))
 
   next-is : next_line before r ≡ Some t.number
   next-is = ap (λ c. slice_get (program s r) c.place) (client_of-places turns.places r) ∙ t.next
 
   clients-are : map client_at (after_line turns r).places ≡ set (map client_at turns.places) r (after_turn (client_of before r) kept)
   clients-are =
-      map-set client_at turns.places r (slice_index turns.places r + 1)
-      ∙ ap (set (map client_at turns.places) r) (sym (after_turn-answered (slice_index turns.places r) t.answer kept t.follows.answer t.follows.doing) ∙ ap (λ c. after_turn c kept) (sym (client_of-places turns.places r)))
+      map-set client_at turns.places r (slice_index turns.places r + 1) ∙ ap (set (map client_at turns.places) r)
+      (sym (rw (t.follows.answer, t.follows.doing) refl) ∙ ap (λ c. after_turn c kept) (sym (client_of-places turns.places r)))
 
-  pub step-is : moment_of s paths (set states t.place t.then) (record { lines = answers.lines; list = put_answer t.number t.answer answers.list }) (after_line turns r) false ≡ step before (record { client = r })
+  pub step-is : moment_of s paths (set states t.place t.then)
+      (record { lines = answers.lines; list = put_answer t.number t.answer answers.list }) (after_line turns r) false
+      ≡ step before (record { client = r })
   step-is =
       same_moment s _ _ _ _ _ _ clients-are (sym (ap (λ a. with_answer t.number a answers.list) t.follows.answer))
-      (journals_of-set paths states t.line.path t.number t.place t.was t.then kept.commits t.held.named.rising t.at t.there t.follows.journal)
-      ∙ ap (after_event before r t.number t.line) (sym event-is)
-      ∙ ap (step_line before r t.number) (sym t.is)
+      (journals_of-set paths states t.line.path t.number t.place t.was t.then kept.commits t.held.named.rising t.at t.there
+      t.follows.journal) ∙ ap (after_event before r t.number t.line) (sym event-is) ∙ ap (step_line before r t.number) (sym t.is)
       ∙ ap (step_at before r) (sym next-is)

@@ -1,50 +1,41 @@
 -- What the event of a line sees is what is kept for its path and its client.
-use Rattle.std.proofs.Common.{◌≡◌, ℕ, max, leb, refl, sym, ap, ◌∙◌, arith}
-use Rattle.std.specs.Prelude.{nat_lt, count_by}
-use Rattle.std.proofs.lemmas.Bool.{cond_both, leb-true}
-use Rattle.std.proofs.lemmas.Bool.Decides.{nat_tests}
-use Rattle.fs_script.specs.declared.line.OpLine.{OpLine}
-use Rattle.fs_script.specs.Job.{Job, phase}
-use Rattle.fs_script.specs.Pending.{Answering}
-use Rattle.fs_script.specs.Effect.{state}
-use Rattle.fs_script.specs.Front.{seen, front, of_earlier_phases}
-use Rattle.core_machine.specs.declared.noted.Noted.{Noted}
-use Rattle.core_machine.specs.declared.path_state.OwnedPath.{OwnedPath}
-use Rattle.core_machine.specs.declared.path_state.ClientPath.{ClientPath}
-use Rattle.core_machine.specs.Event.{Known, PathNow, known_of}
-use Rattle.core_machine.specs.Kept.{kept_now, known_from, later_of}
-use Rattle.core_machine.specs.Standing.{StandsForOwner, StandsForClient, end_of}
-use Rattle.core_machine.specs.Step.{path_now}
-use Rattle.core_machine.proofs.Refines.Answers.{pending-until, seen-until, is_open-until}
+use Rattle.fs_types.proofs.Common.{◌≡◌, ℕ, max, leb, refl, sym, ap, ◌∙◌, arith, nat_lt, count_by, cond_both, leb-true, nat_tests}
+use Rattle.fs_script.specs.Vocabulary.{Job, phase, Answering, state, seen, front, of_earlier_phases}
+use Rattle.core_machine.specs.Vocabulary.{OpLine, Noted, OwnedPath, ClientPath, PathNow, known_of, kept_now, known_from, later_of}
+use Rattle.core_machine.specs.Vocabulary.{StandsForOwner, StandsForClient, end_of, path_now}
+use Rattle.core_machine.proofs.Refines.Answers.{over_answers-until}
 use Rattle.core_machine.proofs.Refines.Clients.{IsOwn}
 
 later-version : (a b : Noted) → (later_of a b).version ≡ max a.version b.version
 later-version a b = cond_both (leb b.version a.version) a b (λ x. x.version ≡ max a.version b.version)
     (λ le. let lt = leb-true b.version a.version le in omega arith) (λ more. grind (arith, nat_tests))
 
-later-known : (at : ℕ → Known) (a b : Noted) → known_from a ≡ at a.version → known_from b ≡ at b.version → known_from (later_of a b) ≡ at (later_of a b).version
-later-known at a b here there = cond_both (leb b.version a.version) a b (λ x. known_from x ≡ at x.version) (λ _. here) (λ _. there)
-
 -- the front of the line is the greater of what its client noted and the board
-front-kept : (s : Job) (A : Answering) (now n : ℕ) (o : OpLine) (x : OwnedPath) (k : ClientPath) → phase s n ≡ now → IsOwn s A o.rank o.path n o → StandsForOwner s A now x → StandsForClient s A o.rank o.path x k
+front-kept : {s : Job} {A : Answering} {now n : ℕ} {o : OpLine} {x : OwnedPath} {k : ClientPath} → phase s n ≡ now
+    → IsOwn s A o.rank o.path n o → StandsForOwner s A now x → StandsForClient s A o.rank o.path x k
     → (later_of k.noted x.board).version ≡ front s A x.journal.items o.rank o.path n
-front-kept s A now n o x k is own owned client =
+front-kept {s} {A} {n} {o} {x} {k} is own owned client =
     let lt = own.within in
-    let saw : k.noted.version ≡ seen s A o.rank o.path n = client.seen ∙ seen-until s o.rank o.path A n (end_of s) (omega arith) own.from in
-    let told : x.board.version ≡ of_earlier_phases s n x.journal.items = owned.board ∙ ap (λ j. count_by (λ m. nat_lt (phase s m) j) x.journal.items) (sym is) in
+    let saw : k.noted.version ≡ seen s A o.rank o.path n = client.seen
+    ∙ over_answers-until _ _ s o.rank o.path A n (end_of s) (omega arith) own.from in
+    let told : x.board.version ≡ of_earlier_phases s n x.journal.items = owned.board
+    ∙ ap (λ j. count_by (λ m. nat_lt (phase s m) j) x.journal.items) (sym is) in
     later-version k.noted x.board ∙ ap (λ v. max v x.board.version) saw ∙ ap (max (seen s A o.rank o.path n)) told
 
-same_now : (v w : PathNow) → v.file ≡ w.file → v.version ≡ w.version → v.pending ≡ w.pending → v.is_open ≡ w.is_open → v.front ≡ w.front → v.at_front ≡ w.at_front → v ≡ w
+same_now : (v w : PathNow) → v.file ≡ w.file → v.version ≡ w.version → v.pending ≡ w.pending → v.is_open ≡ w.is_open → v.front ≡ w.front
+    → v.at_front ≡ w.at_front → v ≡ w
 same_now v w a b c d e f i = record { file = a i; version = b i; pending = c i; is_open = d i; front = e i; at_front = f i }
 
-pub kept_now-is : (s : Job) (A : Answering) (now n : ℕ) (o : OpLine) (x : OwnedPath) (k : ClientPath) → phase s n ≡ now → IsOwn s A o.rank o.path n o → StandsForOwner s A now x → StandsForClient s A o.rank o.path x k
+pub kept_now-is : {s : Job} {A : Answering} {now n : ℕ} {o : OpLine} {x : OwnedPath} {k : ClientPath} → phase s n ≡ now
+    → IsOwn s A o.rank o.path n o → StandsForOwner s A now x → StandsForClient s A o.rank o.path x k
     → kept_now s x k ≡ path_now s A x.journal.items n o
-kept_now-is s A now n o x k is own owned client =
+kept_now-is {s} {A} {now} {n} {o} {x} {k} is own owned client =
     let lt = own.within in
     let J = x.journal.items in
     let at = λ (v : ℕ). known_of (state s A J v) in
-    let front = front-kept s A now n o x k is own owned client in
+    let front = front-kept is own owned client in
     same_now (kept_now s x k) (path_now s A J n o) owned.file refl
-    (client.pending ∙ pending-until s o.rank o.path A n (end_of s) (omega arith) own.from)
-    (client.opened ∙ is_open-until s o.rank o.path A n (end_of s) (omega arith) own.from)
-    front (later-known at k.noted x.board client.known owned.known ∙ ap at front)
+    (client.pending ∙ over_answers-until _ _ s o.rank o.path A n (end_of s) (omega arith) own.from)
+    (client.opened ∙ over_answers-until _ _ s o.rank o.path A n (end_of s) (omega arith) own.from)
+    front ((cond_both (leb x.board.version k.noted.version) k.noted x.board (λ x. known_from x ≡ at x.version) (λ _. client.known)
+    (λ _. owned.known)) ∙ ap at front)

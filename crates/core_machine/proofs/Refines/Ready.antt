@@ -1,18 +1,12 @@
 -- The clients that may go by what the core keeps are those that are ready at the moment that it stands for.
-use Rattle.std.proofs.Common.{◌≡◌, ℕ, zero, suc, ◌+◌, ◌≤◌, ◌<◌, Bool, true, false, cond, List, [], ◌∷◌, length, Option, Some, None, is_some, slice_index, true≢false, refl, sym, ap, ◌∙◌, subst, inl, inr, arith, eq-eqb}
-use Rattle.std.specs.Prelude.{filter}
-use Rattle.std.specs.List.{slice_get, range_with_len}
-use Rattle.std.proofs.lemmas.Bool.{cases_Bool, cases_lt, false_from_ne_true, ltb-false, le-leb, or_left, or_right, ne_eqb}
-use Rattle.std.proofs.lemmas.Option.{none-some, same_Some, slice_get-get_or, slice_get_within}
-use Rattle.fs_types.specs.AnswerList.{Given, answer_at}
-use Rattle.fs_script.specs.declared.line.OpLine.{OpLine}
-use Rattle.fs_script.specs.Job.{Job, op_at, is_of_rank, phase, program}
+use Rattle.fs_types.proofs.Common.{◌≡◌, ℕ, zero, suc, ◌+◌, ◌≤◌, ◌<◌, Bool, true, false, cond, List, [], ◌∷◌, length, Option, Some, None}
+use Rattle.fs_types.proofs.Common.{is_some, slice_index, true≢false, refl, sym, ap, ◌∙◌, subst, inl, inr, arith, eq-eqb, filter, slice_get}
+use Rattle.fs_types.proofs.Common.{range_with_len, cases_Bool, cases_lt, false_from_ne_true, ltb-false, le-leb, or_left, or_right, ne_eqb}
+use Rattle.fs_types.proofs.Common.{none-some, same_Some, slice_get-get_or, slice_get_within}
+use Rattle.fs_script.specs.Vocabulary.{Given, answer_at, Job, op_at, is_of_rank, phase, program}
+use Rattle.core_machine.specs.Vocabulary.{OpLine, PathState, Moment, has_begun, may_come, next_line, ready, Places, IsInPhase, going}
+use Rattle.core_machine.specs.Vocabulary.{next_in, is_of_phase, moment_of, Holds}
 use Rattle.fs_script.proofs.CallerLemmas.{phase-rises, passes, passing-rise, program-place, program-op}
-use Rattle.core_machine.specs.declared.path_state.PathState.{PathState}
-use Rattle.core_machine.specs.Moment.{Moment, has_begun, may_come, next_line, ready}
-use Rattle.core_machine.specs.Turns.{Places, IsInPhase, going, next_in, is_of_phase}
-use Rattle.core_machine.specs.MomentKept.{moment_of}
-use Rattle.core_machine.specs.Standing.{Holds}
 use Rattle.core_machine.proofs.Legal.Phases.{has_begun-from, begun-answered}
 use Rattle.core_machine.proofs.Places.{StandsNext, unanswered}
 use Rattle.core_machine.proofs.Programs.Going.{line-of_phase}
@@ -20,15 +14,17 @@ use Rattle.core_machine.proofs.Programs.NextLines.{next_in-within}
 use Rattle.core_machine.proofs.Refines.Moments.{client_of-places}
 
 -- tests that agree at each number of a range keep the same numbers
-filter-range : (p q : ℕ → Bool) (a len : ℕ) → ((n : ℕ) → a ≤ n → n < a + len → p n ≡ q n) → filter p (range_with_len a len) ≡ filter q (range_with_len a len)
+filter-range : (p q : ℕ → Bool) (a len : ℕ) → ((n : ℕ) → a ≤ n → n < a + len → p n ≡ q n)
+    → filter p (range_with_len a len) ≡ filter q (range_with_len a len)
 filter-range p q a zero agree = refl
 filter-range p q a (suc len) agree =
     let rest = filter-range p q (a + 1) len (λ n from to. agree n (omega arith) (omega arith)) in
-    ap (λ b. cond b (a ∷ filter p (range_with_len (a + 1) len)) (filter p (range_with_len (a + 1) len))) (agree a (omega arith) (omega arith))
-    ∙ ap (λ ns. cond (q a) (a ∷ ns) ns) rest
+    ap (λ b. cond b (a ∷ filter p (range_with_len (a + 1) len)) (filter p (range_with_len (a + 1) len)))
+    (agree a (omega arith) (omega arith)) ∙ ap (λ ns. cond (q a) (a ∷ ns) ns) rest
 
 module _ {s : Job} {paths : List (List ℕ)} {states : List PathState} {answers : Given} {places : List ℕ} {now : ℕ}
-    (held : Holds s paths states answers (record { job = s; places = places; phase = now })) (phases : IsInPhase (record { job = s; places = places; phase = now })) where
+    (held : Holds s paths states answers (record { job = s; places = places; phase = now }))
+    (phases : IsInPhase (record { job = s; places = places; phase = now })) where
   abbrev turns : Places
   turns = record { job = s; places = places; phase = now }
 
@@ -73,7 +69,8 @@ module _ {s : Job} {paths : List (List ℕ)} {states : List PathState} {answers 
   ])
 
   -- some client goes where one has a line left
-  someone : (r n : ℕ) → r < s.shape.clients → next_in turns r ≡ Some n → (q : ℕ) × (k : ℕ) × (q < s.shape.clients) × (next_in turns q ≡ Some k) × (phase s k ≡ now)
+  someone : (r n : ℕ) → r < s.shape.clients → next_in turns r ≡ Some n
+      → (q : ℕ) × (k : ℕ) × (q < s.shape.clients) × (next_in turns q ≡ Some k) × (phase s k ≡ now)
   someone r n within next = by (going turns) refl where
     by : (xs : List ℕ) → going turns ≡ xs → (q : ℕ) × (k : ℕ) × (q < s.shape.clients) × (next_in turns q ≡ Some k) × (phase s k ≡ now)
     by [] e = absurd (none-some n (sym (phases.none_left e r within) ∙ next))
@@ -105,9 +102,11 @@ module _ {s : Job} {paths : List (List ℕ)} {states : List PathState} {answers 
   ready-is = filter-range (λ r. may_come m (next_line m r)) (λ r. is_of_phase s now (next_in turns r)) 0 s.shape.clients
       (λ r from to. ap (may_come m) (next-is r) ∙ comes-is r (next_in turns r) (omega arith) refl)
 
-pub ready-kept : (s : Job) (paths : List (List ℕ)) (states : List PathState) (answers : Given) (turns : Places) → Holds s paths states answers turns → IsInPhase turns
-    → ready (moment_of s paths states answers turns false) ≡ going turns
-ready-kept s paths states answers turns held phases =
-    let e : record { job = s; places = turns.places; phase = turns.phase } ≡ turns = (λ i. record { job = (sym held.same) i; places = turns.places; phase = turns.phase }) in
-    let P : Places → Type 0 = λ v. Holds s paths states answers v → IsInPhase v → ready (moment_of s paths states answers v false) ≡ going v in
+pub ready-kept : {s : Job} {paths : List (List ℕ)} {states : List PathState} {answers : Given} {turns : Places}
+    → Holds s paths states answers turns → IsInPhase turns → ready (moment_of s paths states answers turns false) ≡ going turns
+ready-kept {s} {paths} {states} {answers} {turns} held phases =
+    let e : record { job = s; places = turns.places; phase = turns.phase } ≡ turns =
+    (λ i. record { job = (sym held.same) i; places = turns.places; phase = turns.phase }) in
+    let P : Places → Type 0 = λ v. Holds s paths states answers v → IsInPhase v
+    → ready (moment_of s paths states answers v false) ≡ going v in
     subst P e (λ h p. ready-is h p) held phases

@@ -1,55 +1,27 @@
 -- One event of the machine is one line answered by what the core keeps.
-use Rattle.std.proofs.Common.{◌≡◌, ◌≢◌, ℕ, ◌+◌, ◌<◌, ◌≤◌, Bool, false, cond, List, length, set, slice_index, Some, None, IsSome, is_some, refl, sym, ap, subst, ◌∙◌, arith, inl, inr, nat_eq, eq-eqb}
-use Rattle.std.specs.Prelude.{◌&&◌}
-use Rattle.std.specs.List.{slice_get}
-use Rattle.std.specs.Str.{bytes_eq}
-use Rattle.std.proofs.lemmas.Bool.{cases_eq, ne_eqb}
-use Rattle.std.proofs.lemmas.List.{length-set, get_or-set_same, get_or-set_other}
-use Rattle.std.proofs.lemmas.Option.{same_Some, slice_get_within}
-use Rattle.std.proofs.lemmas.Slice.Eq.{bytes_eq-Decides}
-use Rattle.fs_types.specs.declared.answer.Answer.{Answer}
-use Rattle.fs_types.specs.AnswerList.{Given, answer_at, put_answer}
-use Rattle.fs_script.specs.declared.line.OpLine.{OpLine}
-use Rattle.fs_script.specs.declared.line.Op.{Op}
-use Rattle.fs_script.specs.Job.{Job, op_at, own_at, own_op, rank_at, rank_in, phase, program}
-use Rattle.fs_script.specs.Pending.{Answering, pending}
+use Rattle.fs_types.proofs.Common.{cond-false, false_from_ne_true, and_parts, eqb-true, ◌≡◌, ◌≢◌, ℕ, ◌+◌, ◌<◌, ◌≤◌, false, List, length}
+use Rattle.fs_types.proofs.Common.{set, slice_index, Some, None, IsSome, is_some, refl, sym, ap, subst, ◌∙◌, arith, inl, inr, nat_eq}
+use Rattle.fs_types.proofs.Common.{eq-eqb, ◌&&◌, slice_get, bytes_eq, cases_eq, length-set, get_or-set_same, get_or-set_other, same_Some}
+use Rattle.fs_types.proofs.Common.{slice_get_within, bytes_eq-Decides}
+use Rattle.fs_script.specs.Vocabulary.{Answer, Given, answer_at, put_answer, Job, op_at, own_op, rank_in, phase, program, Answering}
+use Rattle.fs_script.specs.Vocabulary.{pending}
+use Rattle.core_machine.specs.Vocabulary.{OpLine, PathState, ClientPath, AreSound, pending_lines, Follows, kept_event, Places}
+use Rattle.core_machine.specs.Vocabulary.{IsAnsweredUpTo, after_line, Holds, Stands, StandsForOwner, StandsForClient, end_of}
 use Rattle.fs_script.proofs.CallerLemmas.{AddsAnswer-put, own_op-rank, op_at-within, program-op}
-use Rattle.core_machine.specs.declared.path_state.PathState.{PathState}
-use Rattle.core_machine.specs.declared.path_state.ClientPath.{ClientPath}
-use Rattle.core_machine.specs.Kept.{AreSound, pending_lines}
-use Rattle.core_machine.specs.Follows.{Follows, kept_event}
-use Rattle.core_machine.specs.Turns.{Places}
-use Rattle.core_machine.specs.LegalSoFar.{IsAnsweredUpTo}
-use Rattle.core_machine.specs.MomentKept.{after_line}
-use Rattle.core_machine.specs.Standing.{Holds, Stands, StandsForOwner, StandsForClient, end_of}
-use Rattle.core_machine.proofs.Paths.{place_unique, other_bytes}
+use Rattle.core_machine.proofs.Paths.{place_unique}
 use Rattle.core_machine.proofs.Places.{StandsNext, comes_next, upto-own, upto-other}
-use Rattle.core_machine.proofs.Refines.Answers.{IsOpenFrom-next, pending-until}
+use Rattle.core_machine.proofs.Refines.Answers.{IsOpenFrom-next, over_answers-until}
 use Rattle.core_machine.proofs.Refines.Owners.{IsNewAnswer, StandsForOwner-own, StandsForOwner-other}
 use Rattle.core_machine.proofs.Refines.Clients.{Grows, IsOwn, StandsForClient-own, StandsForClient-other}
 use Rattle.core_machine.proofs.Refines.Journals.{slice_get-set_same, slice_get-set_other}
 
 -- ---- whose line it is
 
-own_op-here : (o : OpLine) → own_op o.rank o.path (Some o) ≡ Some o.op
-own_op-here o = rw (eq-eqb o.rank o.rank refl, (bytes_eq-Decides o.path o.path).1 refl) refl
-
-no_op : (a b : Bool) (op : Op) → (a && b) ≡ false → cond (a && b) (Some op) None ≡ None
-no_op a b op e = rw e refl
-
--- it is no line of another client
-own_op-client : (o : OpLine) (r : ℕ) (p : List ℕ) → o.rank ≢ r → own_op r p (Some o) ≡ None
-own_op-client o r p other = no_op (nat_eq o.rank r) (bytes_eq o.path p) o.op (ap (λ b. b && bytes_eq o.path p) (ne_eqb o.rank r other))
-
-and-false : (a b : Bool) → b ≡ false → (a && b) ≡ false
-and-false a b e = grind (arith, e)
-
--- nor of another path
-own_op-path : (o : OpLine) (r : ℕ) (p : List ℕ) → o.path ≢ p → own_op r p (Some o) ≡ None
-own_op-path o r p other = no_op (nat_eq o.rank r) (bytes_eq o.path p) o.op (and-false (nat_eq o.rank r) (bytes_eq o.path p) (other_bytes o.path p other))
-
-own_at-rank : (s : Job) (r : ℕ) (p : List ℕ) (k : ℕ) → IsSome (own_at s r p k) → rank_at s k ≡ Some r
-own_at-rank s r p k own = own_op-rank r p (op_at s k) own
+-- it is no line of another client, nor of another path
+own_op-other : (o : OpLine) (r : ℕ) (p : List ℕ) → (o.rank ≡ r → o.path ≡ p → ⊥) → own_op r p (Some o) ≡ None
+own_op-other o r p other = cond-false (nat_eq o.rank r && bytes_eq o.path p) (Some o.op) None (false_from_ne_true _ (λ both.
+    let parts = and_parts (nat_eq o.rank r) (bytes_eq o.path p) both in
+    other (eqb-true o.rank r parts.0) ((bytes_eq-Decides o.path p).0 parts.1)))
 
 -- ---- the line that was answered, and what is kept after it
 
@@ -77,7 +49,8 @@ pub record Answered (s : Job) (paths : List (List ℕ)) (states : List PathState
   pub follows : Follows s number line.op was.owned client then.owned own answer
   pub sound : AreSound s then.owned own
 
-module _ {s : Job} {paths : List (List ℕ)} {states : List PathState} {answers : Given} {turns : Places} {r : ℕ} (t : Answered s paths states answers turns r) where
+module _ {s : Job} {paths : List (List ℕ)} {states : List PathState} {answers : Given} {turns : Places} {r : ℕ}
+    (t : Answered s paths states answers turns r) where
   abbrev pub given : Answering
   given = answer_at answers.list
 
@@ -97,8 +70,12 @@ module _ {s : Job} {paths : List (List ℕ)} {states : List PathState} {answers 
 
   pub is_own : IsOwn s given t.line.rank t.line.path t.number t.line
   is_own = record {
-    own = ap (own_op t.line.rank t.line.path) t.is ∙ own_op-here t.line;
-    from = IsOpenFrom-next s t.line.rank t.line.path given t.number (comes_next stands_next) (ap rank_in t.is) (own_at-rank s t.line.rank t.line.path);
+    own = ap (own_op t.line.rank t.line.path) t.is ∙ (rw (
+      eq-eqb t.line.rank t.line.rank refl,
+      (bytes_eq-Decides t.line.path t.line.path).1 refl,
+    ) refl);
+    from = IsOpenFrom-next s t.line.rank t.line.path given t.number (comes_next stands_next) (ap rank_in t.is)
+        (λ k own. own_op-rank t.line.rank t.line.path (op_at s k) own);
     within = (let inside = op_at-within s t.number t.line t.is in omega (arith, inside.1));
   }
 
@@ -116,23 +93,24 @@ module _ {s : Job} {paths : List (List ℕ)} {states : List PathState} {answers 
   pends : pending_lines t.client ≡ pending s given t.line.rank t.line.path t.number
   pends =
       let lt = is_own.within in
-      client_stood.pending ∙ pending-until s t.line.rank t.line.path given t.number (end_of s) (omega arith) is_own.from
+      client_stood.pending ∙ over_answers-until _ _ s t.line.rank t.line.path given t.number (end_of s) (omega arith) is_own.from
 
   owner-after : StandsForOwner s given_then turns.phase t.then.owned
-  owner-after = StandsForOwner-own s given given_then turns.phase t.number t.line t.answer t.was.owned t.then.owned t.client t.own is_answer pends t.follows t.sound stood.owned
+  owner-after = StandsForOwner-own is_answer pends t.follows t.sound stood.owned
 
-  client-after : StandsForClient s given_then t.line.rank t.line.path t.then.owned t.own
-  client-after = StandsForClient-own s given given_then turns.phase t.number t.line t.answer t.line.rank t.line.path t.was.owned t.then.owned t.client t.own is_answer is_own t.follows t.sound stood.owned owner-after client_stood
-
-  clients-after : (q : ℕ) (k : ClientPath) → slice_get t.then.clients.items q ≡ Some k → StandsForClient s given_then q t.line.path t.then.owned k
+  clients-after : (q : ℕ) (k : ClientPath) → slice_get t.then.clients.items q ≡ Some k
+      → StandsForClient s given_then q t.line.path t.then.owned k
   clients-after q k found = elim (cases_eq q r) [
     | inl is ↦
-        let there = sym (slice_get-set_same t.was.clients.items r t.own (slice_get_within t.was.clients.items r t.client t.beside)) ∙ ap (slice_get (set t.was.clients.items r t.own)) (sym is) ∙ ap (λ ks. slice_get ks q) (sym t.changed) ∙ found in
-        subst (λ i. StandsForClient s given_then i t.line.path t.then.owned k) (rank-is ∙ sym is) (subst (StandsForClient s given_then t.line.rank t.line.path t.then.owned) (same_Some t.own k there) client-after)
+        let there = sym (slice_get-set_same t.was.clients.items r t.own (slice_get_within t.was.clients.items r t.client t.beside))
+        ∙ ap (slice_get (set t.was.clients.items r t.own)) (sym is) ∙ ap (λ ks. slice_get ks q) (sym t.changed) ∙ found in
+        subst (λ i. StandsForClient s given_then i t.line.path t.then.owned k) (rank-is
+        ∙ sym is) (subst (StandsForClient s given_then t.line.rank t.line.path t.then.owned) (same_Some t.own k there)
+        (StandsForClient-own is_answer is_own t.follows t.sound stood.owned owner-after client_stood))
     | inr other ↦
         let kept = sym (slice_get-set_other t.was.clients.items r q t.own other) ∙ ap (λ ks. slice_get ks q) (sym t.changed) ∙ found in
-        let none = ap (own_op q t.line.path) t.is ∙ own_op-client t.line q t.line.path (λ e. other (sym e ∙ rank-is)) in
-        StandsForClient-other s given given_then turns.phase t.number t.line t.answer _ q t.line.path t.was.owned t.then.owned k is_answer none grows stood.owned (stood.clients q k kept)
+        let none = ap (own_op q t.line.path) t.is ∙ own_op-other t.line q t.line.path (λ e same. other (sym e ∙ rank-is)) in
+        StandsForClient-other is_answer none grows stood.owned (stood.clients q k kept)
   ]
 
   stands-after : Stands s given_then turns.phase t.line.path t.then
@@ -146,22 +124,27 @@ module _ {s : Job} {paths : List (List ℕ)} {states : List PathState} {answers 
 
   stands-other : (p : List ℕ) (x : PathState) → t.line.path ≢ p → Stands s given turns.phase p x → Stands s given_then turns.phase p x
   stands-other p x off stands = record {
-    owned = StandsForOwner-other s given given_then turns.phase t.number t.line t.answer x.owned is_answer stands.owned;
+    owned = StandsForOwner-other is_answer stands.owned;
     sized = stands.sized;
     clients = λ q k found.
-        let none = ap (own_op q p) t.is ∙ own_op-path t.line q p off in
-        StandsForClient-other s given given_then turns.phase t.number t.line t.answer false q p x.owned x.owned k is_answer none (record { journal = refl }) stands.owned (stands.clients q k found);
+        let none = ap (own_op q p) t.is ∙ own_op-other t.line q p (λ same e. off e) in
+        StandsForClient-other {commits = false} {y = x.owned} is_answer none (record { journal = refl }) stands.owned
+        (stands.clients q k found);
   }
 
-  each-after : (j : ℕ) (p : List ℕ) (x : PathState) → slice_get paths j ≡ Some p → slice_get (set states t.place t.then) j ≡ Some x → Stands s given_then turns.phase p x
+  each-after : (j : ℕ) (p : List ℕ) (x : PathState) → slice_get paths j ≡ Some p → slice_get (set states t.place t.then) j ≡ Some x
+      → Stands s given_then turns.phase p x
   each-after j p x at found = elim (cases_eq j t.place) [
     | inl is ↦
         let here = same_Some t.line.path p (sym t.at ∙ ap (slice_get paths) (sym is) ∙ at) in
-        let there = sym (slice_get-set_same states t.place t.then (slice_get_within states t.place t.was t.there)) ∙ ap (slice_get (set states t.place t.then)) (sym is) ∙ found in
-        subst (λ q. Stands s given_then turns.phase q x) here (subst (Stands s given_then turns.phase t.line.path) (same_Some t.then x there) stands-after)
+        let there = sym (slice_get-set_same states t.place t.then (slice_get_within states t.place t.was t.there))
+        ∙ ap (slice_get (set states t.place t.then)) (sym is) ∙ found in
+        subst (λ q. Stands s given_then turns.phase q x) here
+        (subst (Stands s given_then turns.phase t.line.path) (same_Some t.then x there) stands-after)
     | inr other ↦
         let kept = sym (slice_get-set_other states t.place j t.then other) ∙ found in
-        stands-other p x (λ e. other (place_unique paths j t.place t.line.path t.held.named.rising (at ∙ ap Some (sym e)) t.at)) (t.held.each j p x at kept)
+        stands-other p x (λ e. other (place_unique paths j t.place t.line.path t.held.named.rising (at ∙ ap Some (sym e)) t.at))
+        (t.held.each j p x at kept)
   ]
 
   -- ---- all that is kept
@@ -173,10 +156,11 @@ module _ {s : Job} {paths : List (List ℕ)} {states : List PathState} {answers 
         let bound = t.within in
         let size = t.held.clients in
         subst (λ i. IsAnsweredUpTo s given_then i (slice_index (after_line turns r).places i)) (sym is)
-        (subst (IsAnsweredUpTo s given_then r) (sym (get_or-set_same turns.places r (place + 1) 0 (omega arith))) (upto-own stands_next given_then t.answer is_answer.adds))
+        (subst (IsAnsweredUpTo s given_then r) (sym (get_or-set_same turns.places r (place + 1) 0 (omega arith)))
+        (upto-own stands_next given_then t.answer is_answer.adds))
     | inr other ↦
         subst (IsAnsweredUpTo s given_then q) (sym (get_or-set_other turns.places r q (slice_index turns.places r + 1) 0 other))
-        (upto-other s given given_then q t.number (slice_index turns.places q) t.line t.answer is_answer.adds t.is (λ e. other (sym e ∙ rank-is)) (t.held.upto q within))
+        (upto-other s q (slice_index turns.places q) t.line is_answer.adds t.is (λ e. other (sym e ∙ rank-is)) (t.held.upto q within))
   ]
 
   past-after : (m : ℕ) → IsSome (given_then m) → phase s m ≤ turns.phase
@@ -185,7 +169,8 @@ module _ {s : Job} {paths : List (List ℕ)} {states : List PathState} {answers 
     | inr other ↦ t.held.past m (ap is_some (sym (is_answer.adds.others m other)) ∙ counts)
   ]
 
-  pub Holds-after : Holds s paths (set states t.place t.then) (record { lines = answers.lines; list = put_answer t.number t.answer answers.list }) (after_line turns r)
+  pub Holds-after : Holds s paths (set states t.place t.then)
+      (record { lines = answers.lines; list = put_answer t.number t.answer answers.list }) (after_line turns r)
   Holds-after = record {
     job = t.held.job;
     same = t.held.same;

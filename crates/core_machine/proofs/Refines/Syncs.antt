@@ -1,27 +1,19 @@
 -- A sync that commits what is pending: the machine's event, and the file with the pending extents after its own.
-use Rattle.std.proofs.Common.{◌≡◌, ℕ, ◌+◌, true, false, List, [], ◌++◌, length, Some, Vec, refl, ap, ◌∙◌}
-use Rattle.std.proofs.lemmas.List.{map-append}
-use Rattle.fs_script.specs.declared.line.Op.TheVariants as ops
-use Rattle.fs_script.specs.Job.{Job}
-use Rattle.fs_script.specs.Payload.{bytes_of}
-use Rattle.fs_script.specs.Operations.{has_any}
-use Rattle.fs_script.specs.Effect.{effect_of, put_lines}
+use Rattle.fs_types.proofs.Common.{◌≡◌, ℕ, ◌+◌, true, false, List, [], ◌++◌, length, Some, Vec, refl, ap, ◌∙◌, map-append}
+use Rattle.fs_script.specs.Vocabulary.{Job, bytes_of, has_any, effect_of, put_lines}
+use Rattle.core_machine.specs.Vocabulary.{Extent, OwnedPath, ClientPath, lines_of_extents, bytes_of_extents, committed_as, file_of}
+use Rattle.core_machine.specs.Vocabulary.{pending_lines, kept_event}
 use Rattle.fs_script.proofs.CallerLemmas.{put_lines-append}
-use Rattle.core_machine.specs.declared.extent.Extent.{Extent}
-use Rattle.core_machine.specs.declared.path_state.OwnedPath.{OwnedPath}
-use Rattle.core_machine.specs.declared.path_state.ClientPath.{ClientPath}
-use Rattle.core_machine.specs.Extents.{lines_of_extents, bytes_of_extents}
-use Rattle.core_machine.specs.Event.{committed_as}
-use Rattle.core_machine.specs.Kept.{file_of, pending_lines}
-use Rattle.core_machine.specs.Follows.{kept_event}
+use Rattle.fs_script.specs.declared.line.Op.TheVariants as ops
 
-pub sync-event : (s : Job) (x : OwnedPath) (k : ClientPath) (xs : _) → k.is_open ≡ true → x.file ≡ Some xs → has_any (pending_lines k) ≡ true
-    → kept_event s x k ops.Sync ≡ committed_as (length x.journal.items + 1)
+pub sync-event : (s : Job) (x : OwnedPath) (k : ClientPath) (xs : _) → k.is_open ≡ true → x.file ≡ Some xs
+    → has_any (pending_lines k) ≡ true → kept_event s x k ops.Sync ≡ committed_as (length x.journal.items + 1)
 sync-event s x k xs opened file any = rw (opened, file, any) refl
 
 pub sync-file : {A B : Type 0} (s : Job) (xs : Vec Extent A) (ys : Vec Extent B) (ps : List Extent) → ys.items ≡ xs.items ++ ps
     → file_of s (Some ys) ≡ effect_of s (bytes_of s) ops.Sync (lines_of_extents ps) (file_of s (Some xs))
 sync-file s xs ys ps is =
     ap (λ (es : List Extent). Some (record { cells = bytes_of_extents s es; frozen = false })) is
-    ∙ ap (λ (ns : List ℕ). Some (record { cells = put_lines s (bytes_of s) ns []; frozen = false })) (map-append (λ (e : Extent). e.line) xs.items ps)
-    ∙ ap (λ (cells : List ℕ). Some (record { cells = cells; frozen = false })) (put_lines-append s (bytes_of s) (lines_of_extents xs.items) (lines_of_extents ps) [])
+    ∙ ap (λ (ns : List ℕ). Some (record { cells = put_lines s (bytes_of s) ns []; frozen = false }))
+    (map-append (λ (e : Extent). e.line) xs.items ps) ∙ ap (λ (cells : List ℕ). Some (record { cells = cells; frozen = false }))
+    (put_lines-append s (bytes_of s) (lines_of_extents xs.items) (lines_of_extents ps) [])

@@ -1,28 +1,16 @@
 -- The end of a phase: all clients are told of every path, and all that is kept goes on holding in the next phase.
-use Rattle.std.proofs.Common.{◌≡◌, ℕ, zero, suc, ◌<◌, Bool, false, cond, List, [], ◌∷◌, ◌++◌, length, map, take, drop, set, get_or, Option, Some, None, IsSome, is_some, Vec, nat_lt, count_by, slice_index, refl, sym, ap, ◌∙◌, subst, arith}
-use Rattle.std.specs.Prelude.{zip}
-use Rattle.std.specs.List.{slice_get, AllByRecursion}
-use Rattle.std.proofs.lemmas.Bool.{lt-ltb}
-use Rattle.std.proofs.lemmas.List.{length-map}
-use Rattle.std.proofs.lemmas.List.Sums.{sum_by-cons}
-use Rattle.std.proofs.lemmas.Simd.{map-map}
-use Rattle.std.proofs.lemmas.Option.{same_Some}
-use Rattle.fs_types.specs.AnswerList.{Given, answer_at}
-use Rattle.fs_script.specs.Job.{Job, phase}
-use Rattle.fs_script.specs.Pending.{Answering}
-use Rattle.core_machine.specs.declared.extent.Extent.{Extent}
-use Rattle.core_machine.specs.declared.path_state.OwnedPath.{OwnedPath}
-use Rattle.core_machine.specs.declared.path_state.PathState.{PathState}
-use Rattle.core_machine.specs.Event.{known_of}
-use Rattle.core_machine.specs.Kept.{file_of, board_now, with_board}
-use Rattle.core_machine.specs.Turns.{Places}
-use Rattle.core_machine.specs.LegalSoFar.{IsAnsweredUpTo}
-use Rattle.core_machine.specs.MomentKept.{client_at, moment_of}
+use Rattle.fs_types.proofs.Common.{◌≡◌, ℕ, zero, suc, ◌<◌, Bool, false, cond, List, [], ◌∷◌, length, map, Option, Some, None, IsSome}
+use Rattle.fs_types.proofs.Common.{is_some, Vec, nat_lt, count_by, slice_index, refl, sym, ap, ◌∙◌, subst, arith, zip, slice_get}
+use Rattle.fs_types.proofs.Common.{AllByRecursion, lt-ltb, length-map, sum_by-cons, map-map, same_Some}
+use Rattle.fs_script.specs.Vocabulary.{Given, answer_at, Job, phase, Answering}
+use Rattle.core_machine.specs.Vocabulary.{Extent, OwnedPath, PathState, known_of, file_of, board_now, with_board, Places, IsAnsweredUpTo}
+use Rattle.core_machine.specs.Vocabulary.{client_at, moment_of, Holds, Stands, StandsForOwner}
+use Rattle.fs_script.proofs.CallerLemmas.{AllByRecursion-weaker}
 use Rattle.core_machine.proofs.Refines.Journals.{journal_kept}
-use Rattle.core_machine.specs.Standing.{Holds, Stands, StandsForOwner}
 
 -- lines of phases before a later one are all of the lines
-all-earlier : (s : Job) (now : ℕ) (J : List ℕ) → AllByRecursion (λ m. phase s m < now) J → length J ≡ count_by (λ m. nat_lt (phase s m) now) J
+all-earlier : (s : Job) (now : ℕ) (J : List ℕ) → AllByRecursion (λ m. phase s m < now) J
+    → length J ≡ count_by (λ m. nat_lt (phase s m) now) J
 all-earlier s now [] all = refl
 all-earlier s now (m ∷ J) all =
     let rest = all-earlier s now J all.1 in
@@ -34,23 +22,22 @@ known-board s None = refl
 known-board s (Some xs) = refl
 
 -- the owner's part, where every line that was answered is of an earlier phase than the next one
-StandsForOwner-told : (s : Job) (A : Answering) (now next : ℕ) (x : OwnedPath) → ((m : ℕ) → IsSome (A m) → phase s m < next) → StandsForOwner s A now x → StandsForOwner s A next (record x { board = board_now x })
-StandsForOwner-told s A now next x past stands = record {
+StandsForOwner-told : {s : Job} {A : Answering} {now : ℕ} (next : ℕ) {x : OwnedPath} → ((m : ℕ) → IsSome (A m) → phase s m < next)
+    → StandsForOwner s A now x → StandsForOwner s A next (record x { board = board_now x })
+StandsForOwner-told {s} {A} next {x} past stands = record {
   answered = stands.answered;
   written = stands.written;
   file = stands.file;
-  board = all-earlier s next x.journal.items (earlier x.journal.items stands.answered);
+  board = all-earlier s next x.journal.items (AllByRecursion-weaker (λ m. IsSome (A m)) (λ m. phase s m < next) x.journal.items past
+      stands.answered);
   known = known-board s x.file ∙ ap known_of stands.file;
 }
-  where
-    earlier : (J : List ℕ) → AllByRecursion (λ m. IsSome (A m)) J → AllByRecursion (λ m. phase s m < next) J
-    earlier [] all = tt
-    earlier (m ∷ J) all = (past m all.0, earlier J all.1)
 
 -- all that is kept, once all clients were told and the next phase has begun
-pub Holds-told : (s : Job) (paths : List (List ℕ)) (states : List PathState) (answers : Given) (turns then : Places) → then.job ≡ turns.job → then.places ≡ turns.places → turns.phase < then.phase
+pub Holds-told : {s : Job} {paths : List (List ℕ)} {states : List PathState} {answers : Given} {turns : Places} (then : Places)
+    → then.job ≡ turns.job → then.places ≡ turns.places → turns.phase < then.phase
     → Holds s paths states answers turns → Holds s paths (map with_board states) answers then
-Holds-told s paths states answers turns then job places later held = record {
+Holds-told {s} {states} {answers} {turns} then job places later held = record {
   job = held.job;
   same = job ∙ held.same;
   named = held.named;
@@ -63,27 +50,22 @@ Holds-told s paths states answers turns then job places later held = record {
       let y = told-at states i x there in
       let stood = held.each i p y.0 at y.1 in
       subst (Stands s (answer_at answers.list) then.phase p) y.2 (record {
-        owned = StandsForOwner-told s (answer_at answers.list) turns.phase then.phase y.0.owned (λ m given. let was = held.past m given in omega arith) stood.owned;
+        owned = StandsForOwner-told then.phase (λ m given. let was = held.past m given in omega arith) stood.owned;
         sized = stood.sized;
         clients = λ r k found. let c = stood.clients r k found in
             record { opened = c.opened; pending = c.pending; extents = c.extents; seen = c.seen; within = c.within; known = c.known };
       });
 }
   where
-    told-at : (xs : List PathState) (i : ℕ) (x : PathState) → slice_get (map with_board xs) i ≡ Some x → (y : PathState) × (slice_get xs i ≡ Some y) × (with_board y ≡ x)
+    told-at : (xs : List PathState) (i : ℕ) (x : PathState) → slice_get (map with_board xs) i ≡ Some x
+        → (y : PathState) × (slice_get xs i ≡ Some y) × (with_board y ≡ x)
     told-at [] i x is = absurd cc
     told-at (y ∷ ys) zero x is = (y, refl, same_Some (with_board y) x is)
     told-at (y ∷ ys) (suc i) x is = told-at ys i x is
 
--- one path more is told of
-pub tell-next : (xs : List PathState) (i : ℕ) (x : PathState) → i < length xs → x ≡ get_or (map with_board (take i xs) ++ drop i xs) i x
-    → set (map with_board (take i xs) ++ drop i xs) i (with_board x) ≡ map with_board (take (suc i) xs) ++ drop (suc i) xs
-tell-next [] i x lt is = absurd (omega arith)
-tell-next (y ∷ ys) zero x lt is = ap (λ z. with_board z ∷ ys) is
-tell-next (y ∷ ys) (suc i) x lt is = ap (λ zs. with_board y ∷ zs) (tell-next ys i x (omega arith) is)
-
 -- the moment stays
-pub moment-told : (s : Job) (paths : List (List ℕ)) (states : List PathState) (answers : Given) (turns then : Places) (spent : Bool) → then.places ≡ turns.places
+pub moment-told : (s : Job) (paths : List (List ℕ)) (states : List PathState) (answers : Given) (turns then : Places) (spent : Bool)
+    → then.places ≡ turns.places
     → moment_of s paths (map with_board states) answers then spent ≡ moment_of s paths states answers turns spent
 moment-told s paths states answers turns then spent places i = record {
   job = s;

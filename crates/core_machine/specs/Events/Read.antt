@@ -1,12 +1,8 @@
 -- A read shows a range of the file as it is now.
 use Rattle.std.specs.Prelude.{ℕ, List, length, Some, None}
-use Rattle.fs_types.specs.declared.answer.Answer.{Answer}
-use Rattle.fs_types.specs.declared.answer.Answer.TheVariants as answers
-use Rattle.fs_types.specs.Overwrite.{shown}
-use Rattle.fs_types.specs.PlainFile.{File}
-use Rattle.fs_script.specs.Operations.{Range}
-use Rattle.fs_script.specs.Fits.{body_of}
+use Rattle.fs_script.specs.Vocabulary.{Answer, shown, File, Range, body_of}
 use Rattle.core_machine.specs.Event.{Event, PathNow, answered, if_open}
+use Rattle.fs_types.specs.declared.answer.Answer.TheVariants as answers
 
 -- these bytes of version v are shown
 abbrev pub shows : ℕ → List ℕ → Answer

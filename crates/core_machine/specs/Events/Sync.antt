@@ -1,9 +1,8 @@
 -- A sync commits what is pending, if something is and the file may be changed.
 use Rattle.std.specs.Prelude.{ℕ, ◌+◌, Some, None, if◌then◌else◌}
-use Rattle.fs_types.specs.declared.answer.Answer.TheVariants as answers
-use Rattle.fs_types.specs.PlainFile.{File}
-use Rattle.fs_script.specs.Operations.{has_any}
+use Rattle.fs_script.specs.Vocabulary.{File, has_any}
 use Rattle.core_machine.specs.Event.{Event, PathNow, answered, committed_as, if_open}
+use Rattle.fs_types.specs.declared.answer.Answer.TheVariants as answers
 
 abbrev pub sync_over : PathNow → File ℕ → Event
 sync_over w None = answered (answers.NoEnt w.version)

@@ -1,10 +1,9 @@
 -- A write fills slots of its client's log, where the file at the client's front may be written and the write doesn't end
 -- past the longest file.
 use Rattle.std.specs.Prelude.{ℕ, ◌+◌, nat_lt, length, if◌then◌else◌}
-use Rattle.fs_types.specs.declared.answer.Answer.TheVariants as answers
-use Rattle.fs_types.specs.declared.limits.TheConstants.{LONGEST_FILE}
-use Rattle.fs_script.specs.Payload.{Write, parts_of}
+use Rattle.fs_script.specs.Vocabulary.{LONGEST_FILE, Write, parts_of}
 use Rattle.core_machine.specs.Event.{Event, PathNow, answered, if_open}
+use Rattle.fs_types.specs.declared.answer.Answer.TheVariants as answers
 
 abbrev pub write_within : ℕ → Write → Event
 write_within chunk x =

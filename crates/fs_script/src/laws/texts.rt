@@ -4,6 +4,7 @@ ghost use Rattle.fs_script.specs.Laws.{LegalReportsArePrintable, OneLegalReport,
 
 /// Two reports with one text are one report, and no text goes on after another, of whatever jobs the
 /// reports are: that each is printable is all that this needs.
+#[tactic(auto, using(crate::proofs::TextRead::same_report, crate::proofs::TextRead::nothing_more))]
 pub fn one_printable_report()
     ensures one { OnePrintableReport }
     ensures alone { PrintableTextIsWhole }
@@ -22,6 +23,7 @@ pub fn one_legal_report()
 
 /// A text ends with a line `end`, and goes on after that of no other legal report of the job. So a
 /// text that was cut off is no text of a legal report.
+#[tactic(auto, using(crate::proofs::TextRead::text_ends))]
 pub fn text_is_whole()
     ensures ends { TextEnds }
     ensures alone { TextIsWhole }

@@ -1,12 +1,10 @@
 -- The event of a sync is legal.
-use Rattle.std.proofs.Common.{◌≡◌, ℕ, false, not, Some, None, is_some, refl, ap, ◌∙◌}
-use Rattle.std.proofs.lemmas.Bool.{cond_both}
-use Rattle.fs_types.specs.declared.answer.Answer.TheVariants as answers
-use Rattle.fs_types.specs.PlainFile.{File, is_open_to_change, is_frozen}
-use Rattle.fs_script.specs.declared.line.Op.TheVariants as ops
-use Rattle.fs_script.specs.Operations.{has_any}
-use Rattle.core_machine.specs.Events.Sync.{sync_over, sync_event}
+use Rattle.fs_types.proofs.Common.{◌≡◌, ℕ, false, not, Some, None, is_some, refl, ap, ◌∙◌, cond_both}
+use Rattle.fs_script.specs.Vocabulary.{File, is_open_to_change, is_frozen, has_any}
+use Rattle.core_machine.specs.Vocabulary.{sync_over, sync_event}
 use Rattle.core_machine.proofs.Legal.Event.{NextLine, now, IsLegalEvent, MayPrint-last, kept, not_done, committed, if_open-legal}
+use Rattle.fs_types.specs.declared.answer.Answer.TheVariants as answers
+use Rattle.fs_script.specs.declared.line.Op.TheVariants as ops
 
 sync_over-legal : (k : NextLine) (f : File ℕ) → (now k).file ≡ f → false ≡ not (now k).is_open
     → IsLegalEvent k ops.Sync (sync_over (now k) f)

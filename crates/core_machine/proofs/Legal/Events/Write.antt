@@ -1,18 +1,10 @@
 -- The event of a write is legal.
-use Rattle.std.proofs.Common.{◌≡◌, ℕ, ◌+◌, false, not, length, Some, None, is_some, ltb, ltb-true, ltb-false, refl, ap, ◌∙◌}
-use Rattle.std.proofs.lemmas.Bool.{cond_both}
-use Rattle.fs_types.specs.declared.answer.Answer.TheVariants as answers
-use Rattle.fs_types.specs.declared.limits.TheConstants.{LONGEST_FILE}
-use Rattle.fs_types.specs.PlainFile.{File, is_open_to_change, is_frozen}
-use Rattle.fs_script.specs.declared.line.Op.{Op}
-use Rattle.fs_script.specs.declared.line.Op.TheVariants as ops
-use Rattle.fs_script.specs.declared.line.Data.{Data}
-use Rattle.fs_script.specs.Payload.{Write, data_bytes}
-use Rattle.fs_script.specs.Effect.{state}
-use Rattle.fs_script.specs.Fits.{MayWrite}
-use Rattle.core_machine.specs.Event.{known_of}
-use Rattle.core_machine.specs.Events.Write.{write_within, write_at_front, write_event}
+use Rattle.fs_types.proofs.Common.{◌≡◌, ℕ, ◌+◌, false, not, length, Some, None, is_some, ltb, ltb-true, ltb-false, refl, ap, ◌∙◌, cond_both}
+use Rattle.fs_script.specs.Vocabulary.{LONGEST_FILE, File, is_open_to_change, is_frozen, Write, data_bytes, state, MayWrite}
+use Rattle.core_machine.specs.Vocabulary.{Op, Data, known_of, write_within, write_at_front, write_event}
 use Rattle.core_machine.proofs.Legal.Event.{NextLine, now, view_then, IsLegalEvent, MayPrint-front, kept, if_open-legal}
+use Rattle.fs_types.specs.declared.answer.Answer.TheVariants as answers
+use Rattle.fs_script.specs.declared.line.Op.TheVariants as ops
 
 module _ (k : NextLine) (off : ℕ) (text : Data) where
   abbrev op : Op
@@ -31,11 +23,9 @@ module _ (k : NextLine) (off : ℕ) (text : Data) where
       (λ over. kept answers.TooBig opened tt (may, ltb-true _ _ over) refl)
       (λ within. kept (answers.Wrote _) opened tt (may, ltb-false _ _ within, refl) refl)
 
-  write_at_front-legal : (f : File ℕ) → file_at_front ≡ f → false ≡ not (now k).is_open
-      → IsLegalEvent k op
+  write_at_front-legal : (f : File ℕ) → file_at_front ≡ f → false ≡ not (now k).is_open → IsLegalEvent k op
       (write_at_front k.job.shape.chunk (record (now k) { at_front = known_of f }) brings)
-  write_at_front-legal None is opened =
-      kept (answers.NoEnt _) opened (MayPrint-front k) (refl, refl, ap is_some is) refl
+  write_at_front-legal None is opened = kept (answers.NoEnt _) opened (MayPrint-front k) (refl, refl, ap is_some is) refl
   write_at_front-legal (Some f) is opened =
       cond_both f.frozen _ _ (IsLegalEvent k op)
       (λ frozen. kept (answers.ReadOnly _) opened (MayPrint-front k)

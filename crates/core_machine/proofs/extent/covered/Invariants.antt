@@ -1,6 +1,6 @@
-use Rattle.std.proofs.Common.{◌≡◌, ◌≤◌, length, take}
-use Rattle.fs_types.specs.declared.limits.TheConstants.{LONGEST_FILE}
-use Rattle.core_machine.specs.Extents.{bytes_of_extents}
+use Rattle.fs_types.proofs.Common.{◌≡◌, ◌≤◌, length, take}
+use Rattle.fs_script.specs.Vocabulary.{LONGEST_FILE}
+use Rattle.core_machine.specs.Vocabulary.{bytes_of_extents}
 use Rattle.core_machine.proofs.extent.covered.Given as goal
 
 -- the end so far is that of the file which the extents so far make

@@ -1,5 +1,5 @@
-use Rattle.std.proofs.Common.{◌≡◌, ℕ, ◌+◌, ◌<◌, length, take, get_or}
-use Rattle.core_machine.specs.Extents.{bytes_of_extents}
+use Rattle.fs_types.proofs.Common.{◌≡◌, ℕ, ◌+◌, ◌<◌, length, take, get_or}
+use Rattle.core_machine.specs.Vocabulary.{bytes_of_extents}
 use Rattle.core_machine.proofs.extent.overlay_all.Given as goal
 
 -- each place has the byte of the file that the extents so far make

@@ -1,5 +1,5 @@
-use Rattle.std.proofs.Common.{◌≡◌, ◌-◌, take}
-use Rattle.core_machine.specs.PathTable.{texts, paths_of}
+use Rattle.fs_types.proofs.Common.{◌≡◌, ◌-◌, take}
+use Rattle.core_machine.specs.Vocabulary.{texts, paths_of}
 use Rattle.core_machine.proofs.path_table.paths_by_line.Given as goal
 
 -- the paths are those of the lines before line n

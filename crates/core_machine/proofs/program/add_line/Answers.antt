@@ -1,9 +1,6 @@
-use Rattle.std.proofs.Common.{◌≡◌, ◌<◌, ◌∙◌, Some, length, map, sym, ap, arith, rules}
-use Rattle.std.proofs.Math.Seq.{map-set_same}
-use Rattle.std.proofs.lemmas.Result.{on_ok_weaker}
-use Rattle.fs_script.specs.Job.{op_at}
-use Rattle.core_machine.specs.declared.program.Program.{Program}
-use Rattle.core_machine.specs.Program.{with_program_line}
+use Rattle.fs_types.proofs.Common.{◌≡◌, ◌<◌, ◌∙◌, Some, length, map, sym, ap, arith, rules, map-set_same, on_ok_weaker}
+use Rattle.fs_script.specs.Vocabulary.{op_at}
+use Rattle.core_machine.specs.Vocabulary.{Program, with_program_line}
 use Rattle.core_machine.proofs.Programs.Lines.{map-with_program_line}
 use Rattle.core_machine.proofs.program.add_line.Goals.{In-Some-Op}
 use Rattle.core_machine.proofs.program.add_line.Goals as goal
@@ -14,7 +11,12 @@ operation c = search rules
 pub bounds-programs-rank-inside : goal.bounds-programs-rank-inside
 bounds-programs-rank-inside c =
     let o = c.in-Some-Op.field-0-0 in
-    omega (arith, c.rank.view_is, c.requires.job c.args.n o (operation (goal.at.bounds-programs-rank-inside c).In-Some-Op), c.requires.clients)
+    omega (
+      arith,
+      c.rank.view_is,
+      c.requires.job c.args.n o (operation (goal.at.bounds-programs-rank-inside c).In-Some-Op),
+      c.requires.clients,
+    )
 
 pub returns-in-Some-Op-clause-lines : goal.returns-in-Some-Op-clause-lines
 returns-in-Some-Op-clause-lines c =
@@ -29,4 +31,5 @@ returns-in-Some-Op-clause-lines c =
 
 pub returns-in-Some-Op-clause-places : goal.returns-in-Some-Op-clause-places
 returns-in-Some-Op-clause-places c =
-    map-set_same (λ (p : Program). p.place) c.args.programs.now c.rank.inside.0 c.push.new.self c.index-programs-rank.result c.push.ensures.place
+    map-set_same (λ (p : Program). p.place) c.args.programs.now c.rank.inside.0 c.push.new.self c.index-programs-rank.result
+    c.push.ensures.place

@@ -1,4 +1,4 @@
-use Rattle.std.proofs.Common.{◌≡◌, [], map, replicate}
+use Rattle.fs_types.proofs.Common.{◌≡◌, [], map, replicate}
 use Rattle.core_machine.proofs.program.empty_programs.Given as goal
 
 abbrev pub invariant-loop : goal.invariant-loop

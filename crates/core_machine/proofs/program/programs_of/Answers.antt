@@ -1,7 +1,5 @@
-use Rattle.std.proofs.Common.{◌≡◌, ◌∙◌, ◌++◌, length, take, drop, map, replicate, ap, rules, arith}
-use Rattle.std.specs.List.{range_with_len}
-use Rattle.std.proofs.lemmas.List.{places}
-use Rattle.core_machine.specs.declared.program.Program.{Program}
+use Rattle.fs_types.proofs.Common.{◌≡◌, ◌∙◌, ◌++◌, length, take, drop, map, replicate, ap, rules, arith, range_with_len, places}
+use Rattle.core_machine.specs.Vocabulary.{Program}
 use Rattle.core_machine.proofs.Programs.Lines.{lines_before, map-lines_before-first, with_program_line-more}
 use Rattle.core_machine.proofs.program.programs_of.Goals as goal
 

@@ -1,6 +1,5 @@
-use Rattle.std.proofs.Common.{◌≡◌, ◌-◌, map, filter, replicate}
-use Rattle.std.specs.List.{range_with_len}
-use Rattle.fs_script.specs.Job.{op_at, is_of_rank}
+use Rattle.fs_types.proofs.Common.{◌≡◌, ◌-◌, map, filter, replicate, range_with_len}
+use Rattle.fs_script.specs.Vocabulary.{op_at, is_of_rank}
 use Rattle.core_machine.proofs.program.programs_of.Given as goal
 
 -- each client's program has its lines before line n

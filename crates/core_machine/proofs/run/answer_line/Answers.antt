@@ -1,22 +1,17 @@
-use Rattle.std.proofs.Common.{◌≡◌, ℕ, zero, suc, ◌<◌, false, List, [], ◌∷◌, length, Some, slice_get, set, is_some, refl, sym, ap, subst, arith}
-use Rattle.fs_types.specs.declared.answer.Answer.{Answer}
-use Rattle.fs_types.specs.AnswerList.{Given, put_answer}
+use Rattle.fs_types.proofs.Common.{slice_get_read, ◌≡◌, ℕ, zero, suc, ◌<◌, false, List, [], ◌∷◌, length, Some, slice_get, set, is_some}
+use Rattle.fs_types.proofs.Common.{refl, sym, ap, subst, arith}
+use Rattle.fs_script.specs.Vocabulary.{Given, put_answer}
+use Rattle.core_machine.specs.Vocabulary.{PathState, FollowsFor, IsSoundFor, moment_of, after_line, Holds, step}
 use Rattle.fs_script.proofs.CallerLemmas.{op_at-within, program-op}
-use Rattle.core_machine.specs.declared.path_state.PathState.{PathState}
-use Rattle.core_machine.specs.Follows.{FollowsFor, IsSoundFor}
-use Rattle.core_machine.specs.MomentKept.{moment_of, after_line}
-use Rattle.core_machine.specs.Standing.{Holds}
-use Rattle.core_machine.specs.Step.{step}
 use Rattle.core_machine.proofs.Refines.Goes.{Goes, goes-kept}
-use Rattle.core_machine.proofs.Refines.Journals.{slice_get-read}
 use Rattle.core_machine.proofs.Refines.Reads.{Stands-read}
 use Rattle.core_machine.proofs.Refines.Steps.{Answered, Holds-after}
 use Rattle.core_machine.proofs.Refines.Moments.{step-is}
-use Rattle.core_machine.proofs.run.answer_line.Goals as goal
 use Rattle.core_machine.proofs.run.answer_line.Goals.{After-next-n, After-set}
+use Rattle.core_machine.proofs.run.answer_line.Goals as goal
 
 goes : (c : After-next-n) → Goes c.args.s.now c.args.turns.now c.args.r c.next-n.result
-goes c = goes-kept c.args.s.now c.args.paths.now c.args.states.now c.args.answers.now c.args.turns.now c.args.r c.next-n.result c.requires.holds c.requires.going c.next-n.ensures.next
+goes c = goes-kept c.args.r c.next-n.result c.requires.holds c.requires.going c.next-n.ensures.next
 
 pub operation-o-requires : goal.operation-o-requires
 operation-o-requires c = ap is_some (program-op c.args.s.now c.args.r _ c.next-n.result (goes c).next).1
@@ -29,8 +24,9 @@ some-at (x ∷ xs) (suc i) lt = some-at xs i (omega arith)
 pub answer_on_path-requires-clause-sound : goal.answer_on_path-requires-clause-sound
 answer_on_path-requires-clause-sound c =
     let x = c.index-states-i.result in
-    let stands = Stands-read c.args.s.now c.args.paths.now c.args.states.now c.args.answers.now c.args.turns.now c.place-i.result c.operation-o.result.now.path x c.requires.holds c.place-i.ensures.there c.index-states-i.is in
-    let within = (goes-kept c.args.s.now c.args.paths.now c.args.states.now c.args.answers.now c.args.turns.now c.args.r c.next-n.result c.requires.holds c.requires.going c.next-n.ensures.next).within in
+    let stands = Stands-read c.place-i.result c.operation-o.result.now.path x c.requires.holds c.place-i.ensures.there c.index-states-i.is
+    in
+    let within = (goes-kept c.args.r c.next-n.result c.requires.holds c.requires.going c.next-n.ensures.next).within in
     let k = some-at x.clients.items c.args.r (let size = stands.sized in omega arith) in
     subst (IsSoundFor c.args.s.now c.args.r) c.index-states-i.is (record {
       client = k.0;
@@ -47,8 +43,9 @@ set-requires-clause-within c =
 abbrev answered : (c : After-set) → Answered c.args.s.now c.args.paths.now c.args.states.now c.args.answers.now c.args.turns.now c.args.r
 answered c =
     let x = c.index-states-i.result in
-    let going = goes-kept c.args.s.now c.args.paths.now c.args.states.now c.args.answers.now c.args.turns.now c.args.r c.next-n.result c.requires.holds c.requires.going c.next-n.ensures.next in
-    let follows = subst (λ (z : PathState). FollowsFor c.args.s.now c.next-n.result c.operation-o.result.now.op c.args.r z c.answer_on_path.new.state c.in_ok-answer.answer) (sym c.index-states-i.is) c.in_ok-answer.ensures in
+    let going = goes-kept c.args.r c.next-n.result c.requires.holds c.requires.going c.next-n.ensures.next in
+    let follows = subst (λ (z : PathState). FollowsFor c.args.s.now c.next-n.result c.operation-o.result.now.op c.args.r z
+    c.answer_on_path.new.state c.in_ok-answer.answer) (sym c.index-states-i.is) c.in_ok-answer.ensures in
     record {
       held = c.requires.holds;
       within = going.within;
@@ -60,7 +57,8 @@ answered c =
       place = c.place-i.result;
       at = c.place-i.ensures.there;
       was = x;
-      there = slice_get-read c.args.states.now c.place-i.result x (omega (arith, c.place-i.ensures.within, c.requires.holds.kept)) c.index-states-i.is;
+      there = slice_get_read c.args.states.now (length c.args.states.now) c.place-i.result x refl
+          (omega (arith, c.place-i.ensures.within, c.requires.holds.kept)) c.index-states-i.is;
       client = follows.client;
       beside = follows.beside;
       answer = c.in_ok-answer.answer;
@@ -71,19 +69,22 @@ answered c =
       sound = follows.sound;
     }
 
-same_given : (lines : ℕ) (list : List (ℕ × Answer)) (g : Given) → g.list ≡ list → g.lines ≡ lines → record { lines = lines; list = list } ≡ g
-same_given lines list g e d = rw (← e, ← d) refl
-
-same_answers : (c : After-set) → record { lines = c.args.answers.now.lines; list = put_answer c.next-n.result c.in_ok-answer.answer c.args.answers.now.list } ≡ c.set.new.self
-same_answers c = same_given c.args.answers.now.lines (put_answer c.next-n.result c.in_ok-answer.answer c.args.answers.now.list) c.set.new.self c.set.ensures.list c.set.ensures.lines
+same_answers : (c : After-set) → record {
+  lines = c.args.answers.now.lines;
+  list = put_answer c.next-n.result c.in_ok-answer.answer c.args.answers.now.list;
+} ≡ c.set.new.self
+same_answers c = rw (← c.set.ensures.list, ← c.set.ensures.lines) refl
 
 pub returns-clause-holds : goal.returns-clause-holds
 returns-clause-holds c =
     let states = set c.args.states.now c.place-i.result c.answer_on_path.new.state in
-    subst (λ (g : Given). Holds c.args.s.now c.args.paths.now states g (after_line c.args.turns.now c.args.r)) (same_answers c) (Holds-after (answered c))
+    subst (λ (g : Given). Holds c.args.s.now c.args.paths.now states g (after_line c.args.turns.now c.args.r)) (same_answers c)
+    (Holds-after (answered c))
 
 pub returns-clause-step : goal.returns-clause-step
 returns-clause-step c =
     let states = set c.args.states.now c.place-i.result c.answer_on_path.new.state in
-    let next = step (moment_of c.args.s.now c.args.paths.now c.args.states.now c.args.answers.now c.args.turns.now false) (record { client = c.args.r }) in
-    subst (λ (g : Given). moment_of c.args.s.now c.args.paths.now states g (after_line c.args.turns.now c.args.r) false ≡ next) (same_answers c) (step-is (answered c))
+    let next = step (moment_of c.args.s.now c.args.paths.now c.args.states.now c.args.answers.now c.args.turns.now false)
+    (record { client = c.args.r }) in
+    subst (λ (g : Given). moment_of c.args.s.now c.args.paths.now states g (after_line c.args.turns.now c.args.r) false ≡ next)
+    (same_answers c) (step-is (answered c))

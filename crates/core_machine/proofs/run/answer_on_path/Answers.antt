@@ -1,10 +1,8 @@
-use Rattle.std.proofs.Common.{◌≡◌, set, get_or, ap, subst}
-use Rattle.std.proofs.lemmas.Option.{slice_get_within}
-use Rattle.std.specs.Prelude.{Result, Ok, Err, IfOk, OnOk}
-use Rattle.core_machine.proofs.Refines.Journals.{slice_get-read}
+use Rattle.fs_types.proofs.Common.{length, refl, slice_get_read, ◌≡◌, set, get_or, ap, subst, slice_get_within, Result, Ok, Err, IfOk, OnOk}
 use Rattle.core_machine.proofs.run.answer_on_path.Goals as goal
 
-for-ok : {A E : Type 0} {P Q : A → Type 0} {S : Type 0} (result : Result A E) → ((a : A) → P a → S → Q a) → IfOk result P → OnOk result S → IfOk result Q
+for-ok : {A E : Type 0} {P Q : A → Type 0} {S : Type 0} (result : Result A E) → ((a : A) → P a → S → Q a) → IfOk result P → OnOk result S
+    → IfOk result Q
 for-ok (Ok a) f p q = f a p q
 for-ok (Err e) f p q = tt
 
@@ -14,7 +12,8 @@ returns c =
     for-ok c.answer.result (λ a follows sound. record {
       client = c.index_mut-own.result.now;
       own = c.answer.new.own;
-      beside = slice_get-read items c.args.r c.index_mut-own.result.now (slice_get_within items c.args.r c.requires.sound.client c.requires.sound.beside)
+      beside = slice_get_read items (length items) c.args.r c.index_mut-own.result.now refl
+          (slice_get_within items c.args.r c.requires.sound.client c.requires.sound.beside)
           (subst (λ i. c.index_mut-own.result.now ≡ get_or items i c.index_mut-own.result.now) c.r.view_is c.index_mut-own.ensures.value);
       changed = ap (λ i. set items i c.answer.new.own) c.r.view_is;
       follows = follows;

@@ -1,22 +1,17 @@
-use Rattle.std.proofs.Common.{◌≡◌, ap, subst}
-use Rattle.std.specs.Prelude.{IfOk}
-use Rattle.fs_script.specs.Report.{file_state_of}
-use Rattle.core_machine.proofs.Refines.Reads.{Stands-read, file-read, file-absent}
+use Rattle.fs_types.proofs.Common.{◌≡◌, subst, IfOk}
+use Rattle.fs_script.specs.Vocabulary.{file_state_of}
+use Rattle.core_machine.proofs.Refines.Reads.{Stands-read, file-read}
 use Rattle.core_machine.proofs.run.file.Goals as goal
 
 pub file_state-requires : goal.file_state-requires
 file_state-requires c =
     let r = c.args.run.now in
-    (Stands-read r.script.now r.paths r.states.items r.answers r.turns c.in-Some.i c.args.p.now c.index.result.now (c.requires.holds c.if-run.false) c.in-Some.ensures.there c.index.ensures).owned.written
+    (Stands-read c.in-Some.i c.args.p.now c.index.result.now (c.requires.holds c.if-run.false) c.in-Some.ensures.there
+    c.index.ensures).owned.written
 
 pub returns-in-Some : goal.returns-in-Some
 returns-in-Some c =
     let r = c.args.run.now in
     subst (λ f. IfOk c.file_state.result (λ x. x ≡ file_state_of f))
-    (file-read r.script.now r.paths r.states.items r.answers r.turns c.in-Some.i c.args.p.now c.index.result.now (c.requires.holds c.if-run.false) c.in-Some.ensures.there c.index.ensures)
+    (file-read c.in-Some.i c.args.p.now c.index.result.now (c.requires.holds c.if-run.false) c.in-Some.ensures.there c.index.ensures)
     c.file_state.ensures
-
-pub returns-in-None : goal.returns-in-None
-returns-in-None c =
-    let r = c.args.run.now in
-    ap file_state_of (file-absent r.script.now r.paths r.states.items r.answers r.turns c.args.p.now c.in-None.ensures.absent)

@@ -1,5 +1,5 @@
-use Rattle.std.proofs.Common.{◌≡◌, length, All}
-use Rattle.core_machine.specs.Kept.{IsFreshPath}
+use Rattle.fs_types.proofs.Common.{◌≡◌, length, All}
+use Rattle.core_machine.specs.Vocabulary.{IsFreshPath}
 use Rattle.core_machine.proofs.run.fresh_states.Given as goal
 
 -- the states so far are fresh

@@ -1,12 +1,10 @@
-use Rattle.std.proofs.Common.{sym, ap, ◌∙◌}
-use Rattle.core_machine.specs.Moment.{ready}
-use Rattle.core_machine.specs.MomentKept.{moment_of}
+use Rattle.fs_types.proofs.Common.{sym, ap, ◌∙◌}
+use Rattle.core_machine.specs.Vocabulary.{ready, moment_of}
 use Rattle.core_machine.proofs.Refines.Ready.{ready-kept}
 use Rattle.core_machine.proofs.run.ready.Goals as goal
 
 pub returns-else-run : goal.returns-else-run
 returns-else-run c =
     let r = c.args.run.now in
-    c.ready.ensures.ready
-    ∙ sym (ready-kept r.script.now r.paths r.states.items r.answers r.turns (c.requires.holds c.if-run.false) c.requires.phases)
+    c.ready.ensures.ready ∙ sym (ready-kept (c.requires.holds c.if-run.false) c.requires.phases)
     ∙ ap (λ b. ready (moment_of r.script.now r.paths r.states.items r.answers r.turns b)) (sym c.if-run.false)

@@ -1,26 +1,10 @@
-use Rattle.std.proofs.Common.{◌++◌, map, take, drop, set, get_or, refl, sym, ap, ◌∙◌, add-one, append-nil}
-use Rattle.std.proofs.lemmas.List.{take_all, drop_all}
-use Rattle.core_machine.specs.Kept.{with_board}
-use Rattle.core_machine.proofs.Refines.Told.{tell-next}
+use Rattle.fs_types.proofs.Common.{map_over_more, set, sym, ap, ◌∙◌}
+use Rattle.core_machine.specs.Vocabulary.{with_board}
 use Rattle.core_machine.proofs.run.tell_all.Goals as goal
-
-pub loop-state-init : goal.loop-state-init
-loop-state-init c = refl
 
 pub loop-state-preserved : goal.loop-state-preserved
 loop-state-preserved c =
-    let xs = c.args.states.now in
+    let now = c.loop-state.state-items in
     let i = c.loop-state.state-index in
-    let so_far = c.loop-state.invariant in
-    let here = c.state-item.is ∙ ap (λ ys. get_or ys i c.state-item.result) so_far in
-    ap (set c.loop-state.state-items i) (c.tell.ensures ∙ ap with_board (sym c.state-item.is))
-    ∙ ap (λ ys. set ys i (with_board c.state-item.result)) so_far
-    ∙ tell-next xs i c.state-item.result c.loop-state-test.true here
-    ∙ ap (λ k. map with_board (take k xs) ++ drop k xs) (sym (add-one i))
-
-pub returns : goal.returns
-returns c =
-    let xs = c.args.states.now in
-    let i = c.loop-state.state-index in
-    c.loop-state.invariant ∙ ap (λ ys. map with_board ys ++ drop i xs) (take_all i xs c.loop-state-test.false)
-    ∙ ap (λ ys. map with_board xs ++ ys) (drop_all i xs c.loop-state-test.false) ∙ append-nil (map with_board xs)
+    ap (set now i) (c.tell.ensures ∙ ap with_board (sym c.state-item.is))
+    ∙ map_over_more with_board c.args.states.now now i c.state-item.result c.loop-state-test.true c.loop-state.invariant c.state-item.is

@@ -1,13 +1,16 @@
-use Rattle.std.proofs.Common.{◌<◌, ◌∙◌, ℕ, List, [], ◌∷◌, ◌++◌, Vec, Global, vec_len, vec_capacity, length, ap, sym, arith}
-use Rattle.core_machine.specs.Turns.{is_of_phase, next_in}
-use Rattle.core_machine.specs.Program.{places_of}
+use Rattle.fs_types.proofs.Common.{◌<◌, ◌∙◌, ℕ, List, [], ◌∷◌, ◌++◌, Vec, Global, vec_len, vec_capacity, length, ap, sym, arith}
+use Rattle.core_machine.specs.Vocabulary.{is_of_phase, next_in, places_of}
 use Rattle.core_machine.proofs.Programs.Going.{clients-push, clients-skip}
 use Rattle.core_machine.proofs.Programs.NextLines.{length-programs, next_of-read}
 use Rattle.core_machine.proofs.turns.fill_ready.Goals.{then-goes_in, else-goes_in}
 use Rattle.core_machine.proofs.turns.fill_ready.Goals as goal
 
 pub bounds-programs-r : goal.bounds-programs-r
-bounds-programs-r c = omega (arith, length-programs c.args.s.now c.args.programs.now c.requires.programs, c.client_count-r-end.ensures.count)
+bounds-programs-r c = omega (
+  arith,
+  length-programs c.args.s.now c.args.programs.now c.requires.programs,
+  c.client_count-r-end.ensures.count,
+)
 
 pub loop-r-preserved : goal.loop-r-preserved
 loop-r-preserved c =

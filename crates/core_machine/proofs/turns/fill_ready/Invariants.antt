@@ -1,7 +1,5 @@
-use Rattle.std.proofs.Common.{◌≡◌, ◌≤◌, vec_len, vec_capacity, filter}
-use Rattle.std.specs.List.{range_with_len}
-use Rattle.core_machine.specs.Turns.{is_of_phase, next_in}
-use Rattle.core_machine.specs.Program.{places_of}
+use Rattle.fs_types.proofs.Common.{◌≡◌, ◌≤◌, vec_len, vec_capacity, filter, range_with_len}
+use Rattle.core_machine.specs.Vocabulary.{is_of_phase, next_in, places_of}
 use Rattle.core_machine.proofs.turns.fill_ready.Given as goal
 
 -- the clients before r that go

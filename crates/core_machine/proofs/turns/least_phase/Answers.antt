@@ -1,13 +1,7 @@
-use Rattle.std.proofs.Common.{◌≡◌, ◌∙◌, [], min, sym, subst, rules, tests}
-use Rattle.std.specs.Prelude.{IfNone, IfSome}
-use Rattle.std.specs.List.{reduce}
-use Rattle.std.specs.Option.{option_map}
-use Rattle.std.proofs.lemmas.Iterator.{YieldsList-from_slice}
-use Rattle.std.proofs.lemmas.Iterator.Adapters.{option_map_id}
-use Rattle.std.proofs.lemmas.Iterator.Consumers.{YieldsList-from_filter_map, min_from_yields_List}
-use Rattle.fs_script.specs.Job.{phase}
-use Rattle.core_machine.specs.declared.program.Program.{Program}
-use Rattle.core_machine.specs.Program.{IsLeast, next_of, next_phases}
+use Rattle.fs_types.proofs.Common.{◌≡◌, ◌∙◌, [], min, sym, subst, rules, tests, IfNone, IfSome, reduce, option_map, YieldsList-from_slice}
+use Rattle.fs_types.proofs.Common.{option_map_id, YieldsList-from_filter_map, min_from_yields_List}
+use Rattle.fs_script.specs.Vocabulary.{phase}
+use Rattle.core_machine.specs.Vocabulary.{Program, IsLeast, next_of, next_phases}
 use Rattle.core_machine.proofs.Programs.LeastPhase.{none_least, IsLeast-from_reduce}
 use Rattle.core_machine.proofs.turns.least_phase.Goals.{After-min}
 use Rattle.core_machine.proofs.turns.least_phase.Goals as goal

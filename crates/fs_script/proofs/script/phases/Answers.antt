@@ -1,10 +1,6 @@
-use Rattle.std.proofs.Common.{◌≡◌, ℕ, ◌+◌, ◌<◌, ◌∙◌, Bool, true, false, List, length, cond, take, count_by, get_or, sym, ap, refl, arith}
-use Rattle.std.specs.Int.{from_bool}
-use Rattle.std.proofs.lemmas.List.{length-take}
-use Rattle.std.proofs.lemmas.List.Sums.{fold_more, count_by-le-length}
-use Rattle.std.proofs.lemmas.List.FromFn.{map-range_with_len_more}
-use Rattle.fs_script.specs.declared.line.Line.{Line}
-use Rattle.fs_script.specs.Job.{is_barrier}
+use Rattle.fs_types.proofs.Common.{◌≡◌, ℕ, ◌+◌, ◌<◌, ◌∙◌, Bool, true, false, List, length, cond, take, count_by, get_or, sym, ap, refl}
+use Rattle.fs_types.proofs.Common.{arith, from_bool, fold_more, map-range_with_len_more}
+use Rattle.fs_script.specs.Vocabulary.{Line, is_barrier}
 use Rattle.fs_script.proofs.script.phases.Goals.{After-from-phase}
 use Rattle.fs_script.proofs.script.phases.Goals as goal
 
@@ -21,15 +17,11 @@ count-more lines i line lt is =
     ap (λ n. before + n) (from_bool-cond (is_barrier line)) ∙ ap (count before) is ∙ sym (fold_more count 0 lines i line lt)
 
 -- the phase after one more line
-next-phase : (c : After-from-phase) → c.loop-line.phase + c.from-phase.result ≡ count_by is_barrier (take (c.loop-line.line-index + 1) c.args.lines.now)
+next-phase : (c : After-from-phase) → c.loop-line.phase + c.from-phase.result
+    ≡ count_by is_barrier (take (c.loop-line.line-index + 1) c.args.lines.now)
 next-phase c =
     let more = count-more c.args.lines.now c.loop-line.line-index c.line-item.result (omega arith) c.line-item.is in
     omega (arith, more, c.loop-line.invariant.phase, c.from-phase.ensures, ap from_bool c.is_barrier.ensures)
-
-pub overflow_add-phase : goal.overflow_add-phase
-overflow_add-phase c =
-    let lines = take (c.loop-line.line-index + 1) c.args.lines.now in
-    omega (arith, next-phase c, count_by-le-length is_barrier lines, length-take (c.loop-line.line-index + 1) c.args.lines.now)
 
 pub loop-line-preserved : goal.loop-line-preserved
 loop-line-preserved c =

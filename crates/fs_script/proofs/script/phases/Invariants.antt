@@ -1,6 +1,5 @@
-use Rattle.std.proofs.Common.{◌≡◌, ◌+◌, take, map, count_by}
-use Rattle.std.specs.List.{range_with_len}
-use Rattle.fs_script.specs.Job.{is_barrier}
+use Rattle.fs_types.proofs.Common.{◌≡◌, ◌+◌, take, map, count_by, range_with_len}
+use Rattle.fs_script.specs.Vocabulary.{is_barrier}
 use Rattle.fs_script.proofs.script.phases.Given as goal
 
 abbrev pub invariant-loop-line : goal.invariant-loop-line

@@ -1,5 +1,4 @@
-use Rattle.std.proofs.Common.{arith}
-use Rattle.std.proofs.lemmas.Grind.{common_steps}
+use Rattle.fs_types.proofs.Common.{arith, common_steps}
 use Rattle.fs_types.proofs.Tables.{listed-push_none}
 use Rattle.fs_types.proofs.answers.empty_table.Goals as goal
 

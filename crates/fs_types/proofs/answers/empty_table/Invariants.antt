@@ -1,4 +1,4 @@
-use Rattle.std.proofs.Common.{◌≡◌, [], vec_len}
+use Rattle.fs_types.proofs.Common.{◌≡◌, [], vec_len}
 use Rattle.fs_types.specs.AnswerList.{listed}
 use Rattle.fs_types.proofs.answers.empty_table.Given as goal
 

@@ -1,5 +1,5 @@
 -- For bytes and for marks alike.
-use Rattle.std.proofs.Common.{ℕ}
+use Rattle.fs_types.proofs.Common.{ℕ}
 use Rattle.fs_types.specs.Marks.{no_mark}
 use Rattle.fs_types.proofs.Overwrites.{get_or-put, length-put, put-nothing}
 use Rattle.fs_types.proofs.laws.overwriting_is_by_place.Goals as goal

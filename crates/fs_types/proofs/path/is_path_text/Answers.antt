@@ -1,8 +1,6 @@
-use Rattle.std.proofs.Common.{◌≡◌, ◌-◌, Bool, true, false, ◌&&◌, length, take, drop, List, ℕ, nat_le, nat_eq, arith}
-use Rattle.std.proofs.lemmas.Bool.Decides.{nat_tests}
-use Rattle.std.proofs.lemmas.Grind.{common_steps}
+use Rattle.fs_types.proofs.Common.{◌≡◌, ◌-◌, Bool, true, false, ◌&&◌, length, take, drop, List, ℕ, nat_le, nat_eq, arith, nat_tests}
+use Rattle.fs_types.proofs.Common.{common_steps, list_all, starts_with}
 use Rattle.fs_types.specs.PathText.{is_component, between_slashes, mount_point}
-use Rattle.std.specs.List.{list_all, starts_with}
 use Rattle.fs_types.proofs.path.is_path_text.Goals.{then-b-le-LONGEST_PATH, else-b-le-LONGEST_PATH}
 use Rattle.fs_types.proofs.path.is_path_text.Goals as goal
 
@@ -22,6 +20,7 @@ returns-then-starts_with c =
           let short : nat_le (length b) 255 ≡ true = grind (arith, nat_tests) in
           let starts : starts_with nat_eq b mount_point ≡ true = cc w.starts_with.ensures.value in
           let rest = rw rest_of at c.are_components.ensures in
-          and_last (nat_le (length b) 255) (starts_with nat_eq b mount_point) (list_all is_component (between_slashes (drop 9 b))) c.are_components.result short starts rest
+          and_last (nat_le (length b) 255) (starts_with nat_eq b mount_point) (list_all is_component (between_slashes (drop 9 b)))
+          c.are_components.result short starts rest
       | else-b-le-LONGEST_PATH w ↦ grind (arith, nat_tests)
     ]

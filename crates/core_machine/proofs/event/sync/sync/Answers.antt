@@ -1,11 +1,6 @@
-use Rattle.std.proofs.Common.{rules, true, cond, ◌≡◌, ◌∙◌, sym, ap, arith, ◌++◌}
-use Rattle.std.proofs.lemmas.Grind.{common_steps}
-use Rattle.fs_script.specs.declared.line.Op.TheVariants.{Sync}
-use Rattle.fs_script.specs.Payload.{bytes_of}
-use Rattle.fs_script.specs.Operations.{has_any}
-use Rattle.fs_script.specs.Effect.{effect_of}
-use Rattle.core_machine.specs.Event.{Event}
-use Rattle.core_machine.specs.Kept.{file_of, pending_lines}
+use Rattle.fs_types.proofs.Common.{rules, true, cond, ◌≡◌, ◌∙◌, sym, ap, arith, ◌++◌, common_steps}
+use Rattle.fs_script.specs.Vocabulary.{bytes_of, has_any, effect_of}
+use Rattle.core_machine.specs.Vocabulary.{Sync, Event, file_of, pending_lines}
 use Rattle.core_machine.proofs.Refines.Syncs.{sync-event, sync-file}
 use Rattle.core_machine.proofs.event.sync.sync.Goals as goal
 
@@ -21,7 +16,8 @@ returns-clause-follows c = λ s. record {
       let event = sync-event s c.args.path.now c.args.own.now c.in-Some.extents opened c.in-Some.is any in
       sync-file s c.in-Some.extents c.append.new.self c.args.own.now.pending.items extents
       ∙ ap (effect_of s (bytes_of s) Sync (pending_lines c.args.own.now)) (ap (file_of s) (sym c.in-Some.is))
-      ∙ sym (ap (λ (e : Event). cond e.commits (effect_of s (bytes_of s) Sync (pending_lines c.args.own.now) (file_of s c.args.path.now.file)) (file_of s c.args.path.now.file)) event);
+      ∙ sym (ap (λ (e : Event). cond e.commits (effect_of s (bytes_of s) Sync (pending_lines c.args.own.now)
+      (file_of s c.args.path.now.file)) (file_of s c.args.path.now.file)) event);
   board = search rules;
   opened = search rules;
   pending = grind (arith, common_steps);

@@ -1,5 +1,5 @@
-use Rattle.std.proofs.Common.{◌≡◌, length, All}
-use Rattle.core_machine.specs.Kept.{IsFreshClient}
+use Rattle.fs_types.proofs.Common.{◌≡◌, length, All}
+use Rattle.core_machine.specs.Vocabulary.{IsFreshClient}
 use Rattle.core_machine.proofs.path_state.PathState.new.Given as goal
 
 -- the clients so far did nothing

@@ -1,7 +1,5 @@
-use Rattle.std.proofs.Common.{◌≡◌, position, slice_get, Contains, Some, sym, ap, subst, ◌∙◌}
-use Rattle.std.specs.Prelude.{IfSome, IfNone}
-use Rattle.std.specs.Str.{bytes_eq}
-use Rattle.core_machine.specs.PathTable.{texts}
+use Rattle.fs_types.proofs.Common.{◌≡◌, position, slice_get, Contains, Some, sym, ap, subst, ◌∙◌, IfSome, IfNone, bytes_eq}
+use Rattle.core_machine.specs.Vocabulary.{texts}
 use Rattle.core_machine.proofs.PathTables.{position-texts, slice_get-position, absent-from_position}
 use Rattle.core_machine.proofs.path_table.PathTable.index_of.Goals as goal
 
@@ -13,8 +11,10 @@ returns-clause-place c =
 
 pub returns-clause-there : goal.returns-clause-there
 returns-clause-there c =
-    subst (λ r. IfSome r (λ i. slice_get c.args.self.now i ≡ Some c.args.p.now)) (sym (returns-clause-place c)) (slice_get-position c.args.self.now c.args.p.now)
+    subst (λ r. IfSome r (λ i. slice_get c.args.self.now i ≡ Some c.args.p.now)) (sym (returns-clause-place c))
+    (slice_get-position c.args.self.now c.args.p.now)
 
 pub returns-clause-absent : goal.returns-clause-absent
 returns-clause-absent c =
-    subst (λ r. IfNone r (Contains c.args.self.now c.args.p.now → ⊥)) (sym (returns-clause-place c)) (absent-from_position c.args.self.now c.args.p.now)
+    subst (λ r. IfNone r (Contains c.args.self.now c.args.p.now → ⊥)) (sym (returns-clause-place c))
+    (absent-from_position c.args.self.now c.args.p.now)

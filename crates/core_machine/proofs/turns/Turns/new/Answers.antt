@@ -1,6 +1,5 @@
-use Rattle.std.proofs.Common.{◌≡◌, ℕ, zero, suc, ◌∙◌, List, replicate, slice_index, refl, sym, ap, subst, arith}
-use Rattle.core_machine.specs.Turns.{IsInPhase}
-use Rattle.core_machine.specs.Program.{places_of}
+use Rattle.fs_types.proofs.Common.{◌≡◌, ℕ, zero, suc, ◌∙◌, List, replicate, slice_index, refl, sym, ap, subst, arith}
+use Rattle.core_machine.specs.Vocabulary.{IsInPhase, places_of}
 use Rattle.core_machine.proofs.Programs.NextLines.{length-programs, IsInPhase-first, phase-first}
 use Rattle.core_machine.proofs.turns.Turns.new.Goals as goal
 
@@ -21,10 +20,19 @@ invariant_of-result c =
     record {
       job = job;
       programs = are;
-      within = λ r. (let start = ap (λ (xs : List ℕ). slice_index xs r) c.in_ok-programs.ensures.places ∙ zero-at s.shape.clients r in omega arith);
+      within = λ r. (let start = ap (λ (xs : List ℕ). slice_index xs r) c.in_ok-programs.ensures.places ∙ zero-at s.shape.clients r in
+          omega arith);
       ready = rw c.deref-2.ensures.value at c.fill_ready.ensures.going;
-      room = omega (arith, length-programs s ps are, c.in_ok-ready.ensures.capacity, c.fill_ready.ensures.room, c.len.ensures, c.in_ok-programs.programs.ok.0);
-      phase = subst (λ k. IsInPhase (places_of s ps k)) (sym c.unwrap_or-phase.ensures) (IsInPhase-first s ps are c.least_phase.result job none least);
+      room = omega (
+        arith,
+        length-programs s ps are,
+        c.in_ok-ready.ensures.capacity,
+        c.fill_ready.ensures.room,
+        c.len.ensures,
+        c.in_ok-programs.programs.ok.0,
+      );
+      phase = subst (λ k. IsInPhase (places_of s ps k)) (sym c.unwrap_or-phase.ensures)
+          (IsInPhase-first s ps are c.least_phase.result job none least);
     }
 
 pub returns-clause-phase : goal.returns-clause-phase

@@ -1,7 +1,6 @@
-use Rattle.std.proofs.Common.{◌≡◌, ◌∙◌, Some, sym, subst, arith}
-use Rattle.std.specs.Prelude.{IsSome}
-use Rattle.fs_script.specs.Job.{phase}
-use Rattle.core_machine.specs.Turns.{next_in}
+use Rattle.fs_types.proofs.Common.{◌≡◌, ◌∙◌, Some, sym, subst, arith, IsSome}
+use Rattle.fs_script.specs.Vocabulary.{phase}
+use Rattle.core_machine.specs.Vocabulary.{next_in}
 use Rattle.core_machine.proofs.Programs.Kept.{IsReady, ready-within, some-next, line-ready}
 use Rattle.core_machine.proofs.turns.Turns.next.Goals.{After-r, After-unwrap}
 use Rattle.core_machine.proofs.turns.Turns.next.Goals as goal
@@ -13,7 +12,8 @@ pub index-requires : goal.index-requires
 index-requires c = omega (arith, ready-within (ready (goal.at.index-requires c).After-r), c.self.inside.programs.ok.0)
 
 pub unwrap-requires : goal.unwrap-requires
-unwrap-requires c = subst IsSome (sym c.next.ensures) (some-next (ready (goal.at.unwrap-requires c).After-r) c.index.result.now c.index.ensures)
+unwrap-requires c = subst IsSome (sym c.next.ensures) (some-next (ready (goal.at.unwrap-requires c).After-r) c.index.result.now
+    c.index.ensures)
 
 line : (c : After-unwrap) → IsReady c.self.inside c.r.inside.0 c.args.self.now c.args.r
     → (next_in c.args.self.now c.args.r ≡ Some c.unwrap.result) × (phase c.args.self.now.job c.unwrap.result ≡ c.args.self.now.phase)

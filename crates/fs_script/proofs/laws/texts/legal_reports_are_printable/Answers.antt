@@ -3,4 +3,4 @@ use Rattle.fs_script.proofs.LegalReports.{IsPrintable-legal}
 use Rattle.fs_script.proofs.laws.texts.legal_reports_are_printable.Goals as goal
 
 pub returns : goal.returns
-returns c told s R job all legal = IsPrintable-legal told s R job all legal
+returns c told s R job all legal = IsPrintable-legal job all legal

@@ -5,4 +5,4 @@ use Rattle.fs_script.proofs.laws.texts.one_legal_report.Goals as goal
 
 pub returns : goal.returns
 returns c told told' s R S job all all' legal legal' same =
-    same_report R S (IsPrintable-legal told s R job all legal) (IsPrintable-legal told' s S job all' legal') same
+    same_report R S (IsPrintable-legal job all legal) (IsPrintable-legal job all' legal') same

@@ -1,8 +1,6 @@
-use Rattle.std.proofs.Common.{◌≡◌, ℕ, ◌+◌, ◌-◌, ◌∙◌, List, length, min, take, count_by, get_or, ap, arith}
-use Rattle.std.proofs.lemmas.List.{take_min}
-use Rattle.std.proofs.lemmas.List.FromFn.{get_or-map-range_with_len, length-map-range_with_len}
-use Rattle.fs_script.specs.declared.line.Line.{Line}
-use Rattle.fs_script.specs.Job.{Job, is_barrier, phase}
+use Rattle.fs_types.proofs.Common.{◌≡◌, ℕ, ◌+◌, ◌-◌, ◌∙◌, List, length, min, take, count_by, get_or, ap, arith, take_min}
+use Rattle.fs_types.proofs.Common.{get_or-map-range_with_len, length-map-range_with_len}
+use Rattle.fs_script.specs.Vocabulary.{Line, Job, is_barrier, phase}
 use Rattle.fs_script.proofs.script.Script.phase_of.Goals as goal
 
 pub index-requires : goal.index-requires

@@ -1,4 +1,4 @@
-use Rattle.std.proofs.Common.{None, ap, arith}
+use Rattle.fs_types.proofs.Common.{None, ap, arith}
 use Rattle.fs_types.proofs.Tables.{in_order, answer_at-table, answer_at-listed_below}
 use Rattle.fs_types.proofs.answers.Answers.get.Goals as goal
 
@@ -12,7 +12,8 @@ returns-in_err-place-clause-answer c =
 pub returns-in_err-get-clause-answer : goal.returns-in_err-get-clause-answer
 returns-in_err-get-clause-answer c =
     let table = c.self.inside.table.items in
-    let at = answer_at-table table c.line.inside.0 c.in_ok-place.place (omega (arith, c.in_ok-place.ensures)) (omega (arith, c.in_ok-place.ensures)) in
+    let at = answer_at-table table c.line.inside.0 c.in_ok-place.place (omega (arith, c.in_ok-place.ensures))
+    (omega (arith, c.in_ok-place.ensures)) in
     let list = ap (λ g. g.list) c.self.view_is in
     let past = c.in_err-get.ensures.lookup.4 (omega arith) None in
     let is_none = c.from_residual-in_err-get.ensures in
@@ -21,7 +22,8 @@ returns-in_err-get-clause-answer c =
 pub returns-clause-answer : goal.returns-clause-answer
 returns-clause-answer c =
     let table = c.self.inside.table.items in
-    let at = answer_at-table table c.line.inside.0 c.in_ok-place.place (omega (arith, c.in_ok-place.ensures)) (omega (arith, c.in_ok-place.ensures)) in
+    let at = answer_at-table table c.line.inside.0 c.in_ok-place.place (omega (arith, c.in_ok-place.ensures))
+    (omega (arith, c.in_ok-place.ensures)) in
     let list = ap (λ g. g.list) c.self.view_is in
     let got = c.in_ok-get.ensures.lookup.4 (omega arith) None in
     let was = c.as_ref.ensures.value in

@@ -1,4 +1,4 @@
-use Rattle.std.proofs.Common.{◌-◌, ◌<◌, length, ap, refl, rules}
+use Rattle.fs_types.proofs.Common.{◌-◌, ◌<◌, length, ap, refl, rules}
 use Rattle.fs_types.proofs.Tables.{listed-set_table}
 use Rattle.fs_types.proofs.answers.Answers.set.Goals as goal
 
