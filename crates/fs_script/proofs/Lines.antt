@@ -67,13 +67,15 @@ regroup : (front : List Line) (l : Line) (rest : Result (List Line) ScriptFault)
 regroup front l (Ok ls) = ap Ok (sym (append_assoc front (l ∷ []) ls))
 regroup front l (Err f) = refl
 
-module _ (h : Shape) (front : List Line) (t : List ℕ) (ts : List (List ℕ)) (total : Result (List Line) ScriptFault) (so_far : with_front front (lines_from h (length front + 2) (t ∷ ts)) ≡ total) where
+module _ (h : Shape) (front : List Line) (t : List ℕ) (ts : List (List ℕ)) (total : Result (List Line) ScriptFault)
+    (so_far : with_front front (lines_from h (length front + 2) (t ∷ ts)) ≡ total) where
   -- one more line was read
   pub goes_on : (new : List Line) (l : Line) → numbered (length front + 2) (line_of h t) ≡ Ok l → new ≡ front ++ l ∷ []
       → with_front new (lines_from h (length new + 2) ts) ≡ total
   goes_on new l found is =
       let count : length new + 2 ≡ length front + 2 + 1 = omega (arith, ap length is, length-append front (l ∷ [])) in
-      let one : with_front front (lines_from h (length front + 2) (t ∷ ts)) ≡ with_front (front ++ l ∷ []) (lines_from h (length front + 2 + 1) ts) =
+      let one : with_front front (lines_from h (length front + 2) (t ∷ ts))
+      ≡ with_front (front ++ l ∷ []) (lines_from h (length front + 2 + 1) ts) =
       rw found (regroup front l (lines_from h (length front + 2 + 1) ts)) in
       rw (count, is) (sym one ∙ so_far)
 

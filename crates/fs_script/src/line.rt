@@ -63,7 +63,8 @@ fn pattern_byte(seed: u64, i: u64) -> u8
 /// Fills `out` with the pattern of a seed, from the byte at `from` on.
 fn fill_pattern(seed: u64, from: u64, out: &mut [u8])
     requires { from + length out.old ≤ TRANSFER_LIMIT }
-    ensures { out.new ≡ map (λ k. pattern_byte seed (from + k)) (range_with_len 0 (length out.old)) }
+    ensures { out.new
+        ≡ map (λ k. pattern_byte seed (from + k)) (range_with_len 0 (length out.old)) }
 {
     let mut place = from;
     for byte in out.iter_mut() {

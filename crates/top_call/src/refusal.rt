@@ -29,7 +29,8 @@ fn reason_text(reason: Reason) -> &'static [u8]
 }
 
 fn append_over_limit(alloc: Global, out: &mut Vec<u8>, line: LineNo) -> Result<(), Want>
-    ensures { OnOk result (out.new.items ≡ out.old.items ++ refusal_line (ScriptFault.OverLimit line)) }
+    ensures { OnOk result
+        (out.new.items ≡ out.old.items ++ refusal_line (ScriptFault.OverLimit line)) }
 {
     append_number(alloc, out, b"refused limit line=", u64::from(line.0))?;
     out.push(b'\n')?;

@@ -198,7 +198,8 @@ data_again (Pattern seed len) h =
     let lt : len < 2 ^ 64 = omega (arith, h.1) in
     let two : pieces 58 (decimal seed ++ (58 ∷ decimal len)) ≡ decimal seed ∷ decimal len ∷ [] =
     pieces_again 58 (decimal seed) (decimal len ∷ []) (is_word-decimal 58 seed refl h.0) (is_word-decimal 58 len refl lt, tt) in
-    ap data_of (pattern_text seed len) ∙ ap pattern_of two ∙ rw (text_is_number seed h.0, text_is_number len lt, le-leb len TRANSFER_LIMIT h.1) refl
+    ap data_of (pattern_text seed len) ∙ ap pattern_of two
+    ∙ rw (text_is_number seed h.0, text_is_number len lt, le-leb len TRANSFER_LIMIT h.1) refl
 
 op_again : (o : Op) (p : List ℕ) → IsPath p → IsOp o → op_of_words (op_words o p) ≡ Ok (p, o)
 op_again ops.Create p path i = rw path refl
@@ -251,7 +252,8 @@ op_line_again h o few i =
     pieces_again 32 (decimal o.rank) (op_words o.op o.path) (is_word-decimal 32 o.rank refl lt)
     (words_fit o.op o.path i.op (is_word-path o.path i.path)) in
     let first = rank_first (decimal o.rank) o.op o.path in
-    let begins = digit_first h (decimal o.rank) (32 ∷ join_with_byte 32 (op_words o.op o.path)) (digits_decimal own o.rank lt) (decimal_nonempty o.rank lt) in
+    let begins = digit_first h (decimal o.rank) (32 ∷ join_with_byte 32 (op_words o.op o.path))
+    (digits_decimal own o.rank lt) (decimal_nonempty o.rank lt) in
     let op : line_of h (op_text o) ≡ op_line_of h (words_of (op_text o)) = rw (first) begins in
     op ∙ ap (op_line_of h) words
     ∙ rw (text_is_number o.rank lt, lt-ltb o.rank h.clients i.rank, op_again o.op o.path i.path i.op) refl

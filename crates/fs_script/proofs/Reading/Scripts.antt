@@ -42,7 +42,8 @@ lines_are_spelled h n (t ∷ ts) ls e =
     let first = line_is_text h t a.0 (numbered_is n (line_of h t) a.0 a.1) in
     subst (λ k. SpellLines h k (t ∷ ts)) (ok_is (a.0 ∷ b.0) ls b.2) (first.0, first.1, lines_are_spelled h (n + 1) ts b.0 b.1)
 
-spelled_lines_are_read : (h : Shape) (n : ℕ) (ls : List Line) (ts : List (List ℕ)) → h.clients < 2 ^ 64 → SpellLines h ls ts → lines_from h n ts ≡ Ok ls
+spelled_lines_are_read : (h : Shape) (n : ℕ) (ls : List Line) (ts : List (List ℕ))
+    → h.clients < 2 ^ 64 → SpellLines h ls ts → lines_from h n ts ≡ Ok ls
 spelled_lines_are_read h n [] [] few s = refl
 spelled_lines_are_read h n [] (t ∷ ts) few s = absurd s
 spelled_lines_are_read h n (l ∷ ls) [] few s = absurd s
@@ -121,7 +122,8 @@ module _ (bytes : List ℕ) where
   reads_scripts (Ok s) given = job_is_script bytes s given
   reads_scripts (Err f) given = tt
 
-  pub reads_each_script : (r : Result Job ScriptFault) → Gives faults.Want (λ s. s) r (job_of bytes) → (s : Job) → IsScript bytes s → (r ≡ Ok s) ⊎ (r ≡ Err faults.Want)
+  pub reads_each_script : (r : Result Job ScriptFault) → Gives faults.Want (λ s. s) r (job_of bytes)
+      → (s : Job) → IsScript bytes s → (r ≡ Ok s) ⊎ (r ≡ Err faults.Want)
   reads_each_script (Ok t) given s h = inl (sym given ∙ script_is_job bytes s h)
   reads_each_script (Err f) (inl want) s h = inr (ap Err want)
   reads_each_script (Err f) (inr fault) s h = let found = script_is_job bytes s h in absurd cc

@@ -48,21 +48,24 @@ pub is_word-text : (w : List ℕ) → list_all is_text_byte w ≡ true → IsWor
 is_word-text w e = list_all-weaker is_text_byte (is_word_byte 32) text_byte_is_word_byte w e
 
 -- what the parts have, and each byte that parts them, the whole has
-onto_first-all : (q : ℕ → Bool) (b : ℕ) (parts : List (List ℕ)) → list_all (list_all q) (onto_first b parts) ≡ true → (q b ≡ true) × (list_all (list_all q) parts ≡ true)
+onto_first-all : (q : ℕ → Bool) (b : ℕ) (parts : List (List ℕ))
+    → list_all (list_all q) (onto_first b parts) ≡ true → (q b ≡ true) × (list_all (list_all q) parts ≡ true)
 onto_first-all q b [] e = ((and_parts _ _ (and_parts _ _ e).0).0, refl)
 onto_first-all q b (part ∷ parts) e =
     let s = and_parts (q b && list_all q part) (list_all (list_all q) parts) e in
     let f = and_parts (q b) (list_all q part) s.0 in
     (f.0, and_from (list_all q part) (list_all (list_all q) parts) f.1 s.1)
 
-parts_byte : (p q : ℕ → Bool) → ((b : ℕ) → p b ≡ true → q b ≡ true) → (b : ℕ) (w : List ℕ) (at : Bool) → p b ≡ at → (list_all (list_all q) (slice_split p w) ≡ true → list_all q w ≡ true)
+parts_byte : (p q : ℕ → Bool) → ((b : ℕ) → p b ≡ true → q b ≡ true) → (b : ℕ) (w : List ℕ) (at : Bool) → p b ≡ at
+    → (list_all (list_all q) (slice_split p w) ≡ true → list_all q w ≡ true)
     → list_all (list_all q) (cond at ([] ∷ slice_split p w) (onto_first b (slice_split p w))) ≡ true → list_all q (b ∷ w) ≡ true
 parts_byte p q h b w true is rest e = and_from (q b) (list_all q w) (h b is) (rest e)
 parts_byte p q h b w false is rest e =
     let s = onto_first-all q b (slice_split p w) e in
     and_from (q b) (list_all q w) s.0 (rest s.1)
 
-parts_all : (p q : ℕ → Bool) → ((b : ℕ) → p b ≡ true → q b ≡ true) → (w : List ℕ) → list_all (list_all q) (slice_split p w) ≡ true → list_all q w ≡ true
+parts_all : (p q : ℕ → Bool) → ((b : ℕ) → p b ≡ true → q b ≡ true) → (w : List ℕ)
+    → list_all (list_all q) (slice_split p w) ≡ true → list_all q w ≡ true
 parts_all p q h [] e = refl
 parts_all p q h (b ∷ w) e = parts_byte p q h b w (p b) refl (parts_all p q h w) e
 
@@ -73,7 +76,8 @@ name_character_is_word_byte : (b : ℕ) → is_name_character b ≡ true → is_
 name_character_is_word_byte b e = grind (arith, nat_tests)
 
 component_is_word : (c : List ℕ) → is_component c ≡ true → IsWord 32 c
-component_is_word c e = list_all-weaker is_name_character (is_word_byte 32) name_character_is_word_byte c (and_parts _ _ (and_parts _ _ (and_parts _ _ e).0).0).1
+component_is_word c e =
+    list_all-weaker is_name_character (is_word_byte 32) name_character_is_word_byte c (and_parts _ _ (and_parts _ _ (and_parts _ _ e).0).0).1
 
 components_are_words : (cs : List (List ℕ)) → list_all is_component cs ≡ true → list_all (list_all (is_word_byte 32)) cs ≡ true
 components_are_words [] e = refl
@@ -86,7 +90,8 @@ is_word-path p e =
     let parts = and_parts _ _ e in
     let begins = (and_parts _ _ parts.0).1 in
     let whole : p ≡ mount_point ++ drop 9 p = (starts_is Decides-eqb p mount_point (starts_with nat_eq p mount_point) refl).0 begins in
-    let rest : IsWord 32 (drop 9 p) = parts_all (λ b. b == 47) (is_word_byte 32) slash_is_word_byte (drop 9 p) (components_are_words (between_slashes (drop 9 p)) parts.1) in
+    let rest : IsWord 32 (drop 9 p) =
+    parts_all (λ b. b == 47) (is_word_byte 32) slash_is_word_byte (drop 9 p) (components_are_words (between_slashes (drop 9 p)) parts.1) in
     let both : IsWord 32 (mount_point ++ drop 9 p) = is_word-append 32 mount_point (drop 9 p) refl rest in
     rw whole both
 
@@ -96,7 +101,8 @@ not_decides false = (λ e. refl, λ e. refl)
 
 none_parts : (c : ℕ) (w : List ℕ) → IsWord c w → All (λ b. (b == c) ≡ false) w
 none_parts c w h =
-    (Decides-by_and (is_word_byte c) (λ b. (b == c) ≡ false) (list_all (is_word_byte c)) (λ b. not_decides (b == c)) refl (λ _ _. refl) w).0 h
+    (Decides-by_and (is_word_byte c) (λ b. (b == c) ≡ false) (list_all (is_word_byte c))
+    (λ b. not_decides (b == c)) refl (λ _ _. refl) w).0 h
 
 -- a text is its pieces, with a byte between each two
 pub pieces_joined : (c : ℕ) (text : List ℕ) → join_with_byte c (pieces c text) ≡ text

@@ -7,8 +7,8 @@ ghost use Rattle.fs_script.specs.Grammar.{IsJob, IsScript};
 ghost use Rattle.fs_script.specs.Reading.Scripts.{job_of};
 ghost use Rattle.fs_script.specs.Reading.Numbers.{number_of};
 
-/// The bytes of a script are those of one job. The texts of its notes are not kept, so a job may have
-/// more than one script.
+/// The bytes of a script are those of one job. The texts of its notes are not kept, so a job may
+/// have more than one script.
 pub fn one_job()
     ensures { (bytes : List ℕ) (s t : Job) → IsScript bytes s → IsScript bytes t → s ≡ t }
 {}

@@ -52,7 +52,13 @@ fn within_limits(
     shmem: u64,
     spill: u64,
 ) -> Result<Shape, ScriptFault>
-    ensures { result ≡ within_limits (record { servers = servers; clients = clients; chunk = chunk; shmem = shmem; spill = spill }) }
+    ensures { result ≡ within_limits (record {
+      servers = servers;
+      clients = clients;
+      chunk = chunk;
+      shmem = shmem;
+      spill = spill;
+    }) }
 {
     let is_shape = 1 <= servers
         && servers <= SERVER_LIMIT

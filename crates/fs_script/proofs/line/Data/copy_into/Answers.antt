@@ -20,6 +20,7 @@ returns-in-Pattern c =
     let p = c.in-Pattern in
     let bytes = pattern_byte p.seed in
     let is = ap data_bytes p.is in
-    let within : c.args.from + length c.args.out.now ≤ p.len = omega (arith, c.requires.within, ap length is, length-map-range_with_len bytes 0 p.len) in
+    let within : c.args.from + length c.args.out.now ≤ p.len =
+    omega (arith, c.requires.within, ap length is, length-map-range_with_len bytes 0 p.len) in
     c.fill_pattern.ensures ∙ sym (part-map bytes c.args.from (length c.args.out.now) p.len within)
     ∙ ap (λ xs. take (length c.args.out.now) (drop c.args.from xs)) (sym is)
