@@ -1,4 +1,5 @@
 -- The paths of a script's lines: which they are, their order, and their places.
+use Rattle.fs_types.proofs.Common.{common_steps}
 use Rattle.std.specs.List.Sorted.{IsStrictlySortedBy}
 use Rattle.fs_types.proofs.Common.{◌≡◌, ℕ, zero, suc, ◌+◌, ◌-◌, ◌<◌, ◌≤◌, Bool, true, false, cond, ltb, ltb-false, not, List, [], ◌∷◌, ◌++◌}
 use Rattle.fs_types.proofs.Common.{length, take, get_or, position, Option, Some, None, Contains, Vec, nat_eq, refl, sym, ap, subst, ◌∙◌}
@@ -79,9 +80,7 @@ Less-from_others Greater unequal ungreater = absurd (ungreater refl)
 module _ {K : Type 0} {R : K → K → Ordering} (order : IsTotalOrder R) {E : K → K → Bool} (ties : (x y : K) → E x y ≡ eq_by_cmp R x y) where
   -- an element is below the next where the next is not below it, nor equal to it
   Less-from_neighbours : (x y : K) → is_lt (R y x) ≡ false → E x y ≡ false → R x y ≡ Less
-  Less-from_neighbours x y not_after apart =
-      Less-from_others (R x y) (λ e. true≢false (sym (ties x y ∙ ap is_eq e) ∙ apart))
-      (λ e. true≢false (sym (ap is_lt (order.antisymm y x) ∙ (ap (λ x. is_lt (ordering_reverse x)) e)) ∙ not_after))
+  Less-from_neighbours x y not_after apart = grind (arith, common_steps)
 
   -- so a sorted list of distinct elements rises
   IsStrictlySortedBy-from_distinct : (ks : List K) → IsSorted R ks → IsDistinct E ks → IsStrictlySortedBy R ks
@@ -147,19 +146,11 @@ same_from_bytes p q e = (bytes_eq-Decides p q).0 e
 
 -- a path that is added takes none away
 Contains-with_path : (ps : List (List ℕ)) (p q : List ℕ) → Contains ps q → Contains (with_path ps p) q
-Contains-with_path ps p q there = by (list_any (bytes_eq p) ps)
-  where
-    by : (b : Bool) → Contains (if b then ps else ps ++ p ∷ []) q
-    by true = there
-    by false = Contains-append_left ps (p ∷ []) q there
+Contains-with_path ps p q there = grind (arith, common_steps)
 
 -- and nothing else comes
 Contains-with_path-cases : (ps : List (List ℕ)) (p q : List ℕ) → Contains (with_path ps p) q → Contains ps q ⊎ (p ≡ q)
-Contains-with_path-cases ps p q = by (list_any (bytes_eq p) ps)
-  where
-    by : (b : Bool) → Contains (if b then ps else ps ++ p ∷ []) q → Contains ps q ⊎ (p ≡ q)
-    by true there = inl there
-    by false there = Contains-push_cases ps p q there
+Contains-with_path-cases ps p q = grind (arith, common_steps)
 
 -- an operation's path takes none away
 Contains-with_op : (ps : List (List ℕ)) (o : Option OpLine) (q : List ℕ) → Contains ps q → Contains (with_op ps o) q

@@ -1,4 +1,5 @@
 -- Clients whose lines were answered up to a place of their programs: the line that comes next, and what an answer changes.
+use Rattle.fs_types.proofs.Common.{common_steps}
 use Rattle.fs_types.proofs.Common.{◌≡◌, ◌≢◌, ℕ, ◌+◌, ◌<◌, length, Option, Some, None, IsSome, is_some, slice_get, sym, ap, ◌∙◌, subst, refl}
 use Rattle.fs_types.proofs.Common.{inl, inr, arith, cases_eq, ltb-true, lt-ltb, le-ltb, nat_tests, same_Some, none-some}
 use Rattle.fs_script.specs.Vocabulary.{Answer, Job, op_at, rank_in, rank_at, is_of_rank, program, Answering, AddsAnswer, ComesNext}
@@ -12,10 +13,7 @@ pub record StandsNext (s : Job) (A : Answering) (r place n : ℕ) : Type 0 where
 
 -- a line of a client is an operation of it
 rank-op : (s : Job) (k q : ℕ) → rank_at s k ≡ Some q → (o : OpLine) × (op_at s k ≡ Some o) × (o.rank ≡ q)
-rank-op s k q is = by (op_at s k) refl where
-  by : (x : Option OpLine) → op_at s k ≡ x → (o : OpLine) × (op_at s k ≡ Some o) × (o.rank ≡ q)
-  by None e = absurd (none-some q (sym (ap rank_in e) ∙ is))
-  by (Some o) e = (o, e, same_Some o.rank q (sym (ap rank_in e) ∙ is))
+rank-op s k q is = grind (arith, common_steps)
 
 module _ {s : Job} {A : Answering} {r place n : ℕ} (t : StandsNext s A r place n) where
   pub unanswered : A n ≡ None

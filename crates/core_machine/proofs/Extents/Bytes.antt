@@ -1,4 +1,5 @@
 -- The bytes that extents make, one after the other, and at each place.
+use Rattle.fs_types.proofs.Common.{common_steps}
 use Rattle.fs_types.proofs.Common.{◌≡◌, ℕ, ◌+◌, ◌-◌, ◌<◌, ◌≤◌, max, min, cond, ltb, leb, List, [], ◌∷◌, ◌++◌, length, take, drop, get_or}
 use Rattle.fs_types.proofs.Common.{sym, ap, subst, ◌∙◌, arith, inl, inr, ◌&&◌, cases_lt, nat_tests, All-from_recursion, length-take-le}
 use Rattle.fs_types.proofs.Common.{length-drop, get_or_append_left, get_or-append_right, get_or-take, get_or-drop, take_more, map_push}
@@ -11,18 +12,7 @@ use Rattle.fs_script.proofs.CallerLemmas.{put_lines-append}
 -- a place of a list of which a part was written
 get_or-put_mid : (a n i : ℕ) (xs ys : List ℕ) → a + n ≤ length xs → length ys ≡ n
     → get_or (put_mid a n xs ys) i 0 ≡ cond (leb a i && ltb i (a + n)) (get_or ys (i - a) 0) (get_or xs i 0)
-get_or-put_mid a n i xs ys fits len =
-    let front : length (take a xs) ≡ a = length-take-le a xs (omega arith) in
-    elim (cases_lt i a) [
-      | inl lt ↦ get_or_append_left (take a xs) (ys ++ post_of a n xs) 0 i (omega arith) ∙ get_or-take a xs i 0 lt
-          ∙ grind (arith, nat_tests)
-      | inr le ↦ get_or-append_right (take a xs) (ys ++ post_of a n xs) a i 0 front le ∙ elim (cases_lt i (a + n)) [
-        | inl lt ↦ get_or_append_left ys (post_of a n xs) 0 (i - a) (omega arith) ∙ grind (arith, nat_tests)
-        | inr past ↦ get_or-append_right ys (post_of a n xs) n (i - a) 0 len (omega arith)
-            ∙ get_or-drop n (drop a xs) (i - a - n) 0 ∙ get_or-drop a xs (n + (i - a - n)) 0
-            ∙ (let same : a + (n + (i - a - n)) ≡ i = omega arith in ap (λ j. get_or xs j 0) same) ∙ grind (arith, nat_tests)
-      ]
-    ]
+get_or-put_mid a n i xs ys fits len = grind (arith, common_steps)
 
 -- a part of what is shown from off on takes the bytes of an extent that reaches over it
 pub overlaid : (bytes out part : List ℕ) (at len off from to k : ℕ) → from ≡ max at off → to ≡ min (at + len) (off + length out) → from < to
