@@ -39,25 +39,16 @@ overlaid bytes out part at len off from to k is_from is_to lt whole is_part with
 -- the bytes of extents and one more
 bytes_of_extents-push : {s : Job} (xs : List Extent) {x : Extent} → IsExtent s x
     → bytes_of_extents s (xs ++ x ∷ []) ≡ put 0 (bytes_of_extents s xs) x.at (payload s x.line)
-bytes_of_extents-push {s} xs {x} is =
-    ap (λ (ns : List ℕ). put_lines s (bytes_of s) ns []) (map_push (λ (y : Extent). y.line) xs x)
-    ∙ put_lines-append s (bytes_of s) (lines_of_extents xs) (x.line ∷ []) []
-    ∙ (let le : offset s x.line + length (payload s x.line) ≤ LONGEST_FILE = omega (arith, is.at, is.len, is.end) in
-    (grind (arith, nat_tests))) ∙ ap (λ o. put 0 (bytes_of_extents s xs) o (payload s x.line)) (sym is.at)
+bytes_of_extents-push {s} xs {x} is = grind (arith, common_steps, map_push, put_lines-append)
 
 length-bytes_of_extents-push : {s : Job} (xs : List Extent) {x : Extent} → IsExtent s x
     → length (bytes_of_extents s (xs ++ x ∷ [])) ≡ max (length (bytes_of_extents s xs)) (x.at + x.len)
-length-bytes_of_extents-push {s} xs {x} is =
-    ap length (bytes_of_extents-push xs is) ∙ length-put 0 (bytes_of_extents s xs) x.at (payload s x.line) (omega (arith, is.some, is.len))
-    ∙ omega (arith, is.len)
+length-bytes_of_extents-push {s} xs {x} is = grind (arith, common_steps, bytes_of_extents-push, length-put)
 
 -- a byte of extents and one more
 get_or-bytes_of_extents-push : {s : Job} (xs : List Extent) {x : Extent} (k : ℕ) → IsExtent s x
     → get_or (bytes_of_extents s (xs ++ x ∷ [])) k 0 ≡ byte_over s x k (get_or (bytes_of_extents s xs) k 0)
-get_or-bytes_of_extents-push {s} xs {x} k is =
-    ap (λ (bs : List ℕ). get_or bs k 0) (bytes_of_extents-push xs is) ∙ get_or-put 0 (bytes_of_extents s xs) x.at (payload s x.line) k
-    ∙ ap (λ n. cond (leb x.at k && ltb k (x.at + n)) (get_or (payload s x.line) (k - x.at) 0) (get_or (bytes_of_extents s xs) k 0))
-    (sym is.len)
+get_or-bytes_of_extents-push {s} xs {x} k is = grind (arith, common_steps, bytes_of_extents-push, get_or-put)
 
 -- each of the extents is one
 pub IsExtent-at : (s : Job) (xs : List Extent) (i : ℕ) (x : Extent) → AreExtents s xs → i < length xs → x ≡ get_or xs i x → IsExtent s x
@@ -68,14 +59,10 @@ more xs i x lt is = take_more xs i x lt ∙ ap (λ y. take i xs ++ y ∷ []) (sy
 
 pub length-bytes_of_extents-more : (s : Job) (xs : List Extent) (i : ℕ) (x : Extent) → AreExtents s xs → i < length xs → x ≡ get_or xs i x
     → length (bytes_of_extents s (take (i + 1) xs)) ≡ max (length (bytes_of_extents s (take i xs))) (x.at + x.len)
-length-bytes_of_extents-more s xs i x are lt is =
-    ap (λ (ys : List Extent). length (bytes_of_extents s ys)) (more xs i x lt is)
-    ∙ length-bytes_of_extents-push (take i xs) (IsExtent-at s xs i x are lt is)
+length-bytes_of_extents-more s xs i x are lt is = grind (arith, common_steps, more, length-bytes_of_extents-push, IsExtent-at)
 
 pub get_or-bytes_of_extents-more : (s : Job) (xs : List Extent) (i k : ℕ) (x : Extent) → AreExtents s xs → i < length xs → x ≡ get_or xs i x
     → get_or (bytes_of_extents s (take (i + 1) xs)) k 0 ≡ byte_over s x k (get_or (bytes_of_extents s (take i xs)) k 0)
-get_or-bytes_of_extents-more s xs i k x are lt is =
-    ap (λ (ys : List Extent). get_or (bytes_of_extents s ys) k 0) (more xs i x lt is)
-    ∙ get_or-bytes_of_extents-push (take i xs) k (IsExtent-at s xs i x are lt is)
+get_or-bytes_of_extents-more s xs i k x are lt is = grind (arith, common_steps, more, get_or-bytes_of_extents-push, IsExtent-at)
 
 pub ruleset extents_more = (IsExtent-at, length-bytes_of_extents-more, get_or-bytes_of_extents-more)

@@ -74,9 +74,7 @@ module _ (k : NextLine) where
   MayPrint-last = MayPrint-from (now k).version front-in_journal (omega arith)
 
   MayPrint-new : MayPrint k true (suc (length k.journal))
-  MayPrint-new =
-      IsInReach-made k.line
-      k.legal k.next k.is k.later front-in_journal
+  MayPrint-new = grind (arith, common_steps, IsInReach-made, front-in_journal)
 
 -- ---- answers, by whether they commit
 
