@@ -1,4 +1,5 @@
 -- The lines of a text, one after the other.
+use Rattle.fs_types.proofs.Common.{common_steps}
 use Rattle.fs_types.proofs.Common.{◌≡◌, ℕ, ◌+◌, ◌<◌, ◌≤◌, ◌==◌, Bool, false, List, [], ◌∷◌, length, take, drop, Some, None, refl, sym, ap}
 use Rattle.fs_types.proofs.Common.{◌∙◌, arith, ◌++◌, Result, Ok, Err, append_assoc, length-append, slice_split, position, position_or_len}
 use Rattle.fs_types.proofs.Common.{All, slice_split_first, slice_split_none, length-slice_split, fails_before_first, nat_tests}
@@ -57,9 +58,4 @@ regroup front l (Err f) = refl
 pub goes_on : (h : Shape) (front new : List Line) (t : List ℕ) (ts : List (List ℕ)) (l : Line) (total : Result (List Line) ScriptFault)
     → line_of h t ≡ Some l → new ≡ front ++ l ∷ []
     → with_front front (lines_from h (length front + 2) (t ∷ ts)) ≡ total → with_front new (lines_from h (length new + 2) ts) ≡ total
-goes_on h front new t ts l total found is so_far =
-    let count : length new + 2 ≡ length front + 2 + 1 = omega (arith, ap length is, length-append front (l ∷ [])) in
-    let one : with_front front (lines_from h (length front + 2) (t ∷ ts))
-    ≡ with_front (front ++ l ∷ []) (lines_from h (length front + 2 + 1) ts) =
-    rw found (regroup front l (lines_from h (length front + 2 + 1) ts)) in
-    rw (count, is) (sym one ∙ so_far)
+goes_on h front new t ts l total found is so_far = grind (arith, common_steps)

@@ -1,4 +1,5 @@
 -- A header and a line by their words, as code sees them in a slice.
+use Rattle.fs_types.proofs.Common.{common_steps}
 use Rattle.fs_types.proofs.Common.{◌≡◌, ◌≢◌, ℕ, ◌<◌, ◌≤◌, Bool, true, ◌&&◌, cond, List, [], ◌∷◌, map, length, get_or, drop, Option, None}
 use Rattle.fs_types.proofs.Common.{Bor, refl, sym, ap, ◌∙◌, arith, codes, bytes_eq}
 use Rattle.fs_script.specs.Vocabulary.{Shape}
@@ -55,8 +56,4 @@ pub shape_from_seven : (ws : List (Bor (List ℕ))) (d : Bor (List ℕ)) (format
     → format ≡ (bytes_eq (get_or ws 0 d).now (codes "unifyfs") && bytes_eq (get_or ws 1 d).now (codes "1")) → format ≡ true
     → r ≡ shape_of (get_or ws 2 d).now (get_or ws 3 d).now (get_or ws 4 d).now (get_or ws 5 d).now (get_or ws 6 d).now
     → r ≡ header_of_words (texts ws)
-shape_from_seven ws d format r seven tested holding is =
-    let holds : (bytes_eq (get_or ws 0 d).now (codes "unifyfs") && bytes_eq (get_or ws 1 d).now (codes "1")) ≡ true = sym tested
-    ∙ holding in
-    is ∙ sym (header_at_seven ws d seven ∙ ap (λ b. cond b
-    (shape_of (get_or ws 2 d).now (get_or ws 3 d).now (get_or ws 4 d).now (get_or ws 5 d).now (get_or ws 6 d).now) None) holds)
+shape_from_seven ws d format r seven tested holding is = grind (arith, common_steps)
