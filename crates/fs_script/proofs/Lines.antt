@@ -39,10 +39,7 @@ no_empty_end : (l : List ℕ) → 0 < length l → without_empty_end (l ∷ []) 
 no_empty_end l lt = grind (arith, nat_tests)
 
 pub last_line : (bs : List ℕ) → position is_line_feed bs ≡ None → 0 < length bs → lines_of bs ≡ bs ∷ []
-last_line bs e lt =
-    let none : All (λ x. is_line_feed x ≡ false) bs = λ k d below.
-    fails_before_first is_line_feed bs k d (omega (arith, no_position bs e)) in
-    ap without_empty_end (slice_split_none is_line_feed bs none) ∙ no_empty_end bs lt
+last_line bs e lt = grind (arith, common_steps, fails_before_first, no_position, slice_split_none, no_empty_end)
 
 -- the lines that were read before, and those that are still read
 abbrev pub with_front : List Line → Result (List Line) ScriptFault → Result (List Line) ScriptFault

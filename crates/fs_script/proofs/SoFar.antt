@@ -17,9 +17,7 @@ use Rattle.fs_script.proofs.PlainLists.{AllByRecursion-from_get, AllByRecursion-
 -- to its own path
 pub committed-own : (s : Job) (A : Answering) (n : ℕ) (o : OpLine) → op_at s n ≡ Some o
     → committed s A o.path n ≡ commit_by o.op (pending s A o.rank o.path n) (A n)
-committed-own s A n o is =
-    ap (commit_in s A o.path n) is ∙ cond-true (bytes_eq o.path o.path) (commit_by o.op (pending s A o.rank o.path n) (A n)) None
-    ((bytes_eq-Decides o.path o.path).1 refl)
+committed-own s A n o is = grind (arith, common_steps, cond-true, bytes_eq-Decides)
 
 -- and to another
 pub committed-off : (s : Job) (A : Answering) (n : ℕ) (o : OpLine) (p : List ℕ) → op_at s n ≡ Some o → o.path ≢ p → committed s A p n ≡ None
