@@ -12,8 +12,7 @@ use Rattle.fs_script.proofs.CallerLemmas.{state_in-agree, pending_at-answered, s
 -- where the line isn't the client's on the path, its answer changes nothing there
 pub AgreeBefore-elsewhere : (s : Job) (r : ℕ) (p : List ℕ) (A B : Answering) (n : ℕ) (a : Answer) (m : ℕ) → AddsAnswer A n a B
     → own_at s r p n ≡ None → AgreeBefore s r p A B m
-AgreeBefore-elsewhere s r p A B n a m adds none k below own =
-    sym (adds.others k (λ is. true≢false (sym own ∙ ap is_some (ap (own_at s r p) is ∙ none))))
+AgreeBefore-elsewhere s r p A B n a m adds none k below own = grind (arith, common_steps)
 
 -- ---- the line's own client and path
 
