@@ -25,14 +25,7 @@ module _ {A : Type 0} where
   -- an inserted vector brings its bytes
   pub texts-insert_key : (vs : List (Vec ℕ A)) (v : Vec ℕ A)
       → texts (insert_key (λ x y. pointwise nat_eq x.items y.items) vs v) ≡ with_path (texts vs) v.items
-  texts-insert_key vs v = by (list_any (λ x. bytes_eq v.items x.items) vs) refl
-    where
-      by : (b : Bool) → list_any (λ x. bytes_eq v.items x.items) vs ≡ b
-          → texts (insert_key (λ x y. pointwise nat_eq x.items y.items) vs v) ≡ with_path (texts vs) v.items
-      by true e = ap (λ b. texts (if b then vs else vs ++ v ∷ [])) e
-          ∙ sym (ap (λ b. if b then texts vs else texts vs ++ v.items ∷ []) (list_any-texts v.items vs ∙ e))
-      by false e = ap (λ b. texts (if b then vs else vs ++ v ∷ [])) e ∙ map_push (λ x. x.items) vs v
-          ∙ sym (ap (λ b. if b then texts vs else texts vs ++ v.items ∷ []) (list_any-texts v.items vs ∙ e))
+  texts-insert_key vs v = grind (arith, common_steps, list_any-texts, map_push)
 
   -- bytes that are there bring no path
   pub with_path-there : (vs : List (Vec ℕ A)) (p : List ℕ) → list_any (λ v. bytes_eq p v.items) vs ≡ true
@@ -111,15 +104,7 @@ slice_get-position ps p = by (position (λ q. bytes_eq q p) ps) refl
 
 -- a path without a place is not among them
 pub absent-from_position : (ps : List (List ℕ)) (p : List ℕ) → IfNone (position (λ q. bytes_eq q p) ps) (Contains ps p → ⊥)
-absent-from_position ps p = by (ltb (position_or_len (λ q. bytes_eq q p) ps) (length ps)) refl
-  where
-    by : (b : Bool) → ltb (position_or_len (λ q. bytes_eq q p) ps) (length ps) ≡ b
-        → IfNone (cond b (Some (position_or_len (λ q. bytes_eq q p) ps)) None) (Contains ps p → ⊥)
-    by true e = tt
-    by false e = λ there.
-        let past : length ps ≤ position_or_len (λ q. bytes_eq q p) ps = ltb-false _ _ e in
-        true≢false (sym ((bytes_eq-Decides (get_or ps there.0 p) p).1 there.2)
-        ∙ fails_before_first (λ q. bytes_eq q p) ps there.0 p (omega (arith, past, there.1)))
+absent-from_position ps p = grind (arith, common_steps, length, bytes_eq-Decides, fails_before_first)
 
 -- ---- the paths of lines
 -- one line more brings its path

@@ -31,10 +31,7 @@ place-is s A r place i n upto at fresh earlier =
     ]
 
 no_operation : (s : Job) (n : ℕ) → 2 + length s.lines ≤ n → is_some (op_at s n) ≡ false
-no_operation s n past = false_from_ne_true (is_some (op_at s n)) (λ is.
-    let op = some_of (op_at s n) is in
-    let within = (op_at-within s n op.0 op.1).1 in
-    omega arith)
+no_operation s n past = grind (arith, common_steps, false_from_ne_true, some_of, op_at-within)
 
 module _ {told : List ℕ} {m : Moment} (so_far : IsLegalMoment told m)
     (none : ready m ≡ []) (going : m.spent ≡ false) where
@@ -79,12 +76,7 @@ module _ {told : List ℕ} {m : Moment} (so_far : IsLegalMoment told m)
 
   -- each operation has an answer, and nothing else
   answers-at_end : (n : ℕ) → is_some (printed m n) ≡ is_some (op_at m.job n)
-  answers-at_end n = elim (cases_Bool (is_some (op_at m.job n))) [
-    | inl is ↦
-        let op = some_of (op_at m.job n) is in
-        answered-below (suc n) n op.0 (omega arith) op.1 ∙ sym is
-    | inr not_one ↦ ap is_some (unanswered n not_one) ∙ sym not_one
-  ]
+  answers-at_end n = grind (arith, common_steps, some_of, answered-below, unanswered)
 
   lines-at_end : map (λ a. a.0) m.answers ≡ op_lines m.job
   lines-at_end =

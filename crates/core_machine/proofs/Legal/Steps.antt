@@ -100,10 +100,7 @@ module _ {told : List ℕ} {m : Moment} {r : ℕ} (t : IsTurn told m r) (a : Ans
   -- what the line commits is as its event found it
   commit-after : commit_by o.op (pending m.job B o.rank o.path n) (B n)
       ≡ commit_of o.op (now (coming t)).pending a
-  commit-after =
-      let agree = AgreeBefore-next m.job o.rank o.path n adds (omega arith) in
-      let same = pending-agree m.job o.rank o.path (answering m) B n agree in
-      ap (commit_by o.op (pending m.job B o.rank o.path n)) adds.added ∙ ap (λ q. commit_of o.op q a) (sym same)
+  commit-after = grind (arith, common_steps, AgreeBefore-next, adds, pending-agree)
 
   legal-after : (committed : Bool) → IsLegalAnswer (coming t) o.op a committed
       → IsLegalSoFar told m.job B (journal_of (journals_after committed))
