@@ -116,14 +116,7 @@ IsLegalJournal-kept {s} {A} {B} {p} {J} {n} {a} adds next none legal =
 -- an old entry in the longer journal
 IsLegalEntry-longer : {s : Job} {A : Answering} {p : List ℕ} {J : List ℕ} (n : ℕ) {k m : ℕ} → k < length J → m ≢ n
     → IsLegalEntry s A p J k m → IsLegalEntry s A p (J ++ n ∷ []) k m
-IsLegalEntry-longer {s} {A} {J} n {k} {m} below other legal = record {
-  committed = legal.committed;
-  once = λ i at. elim (slice_get-push_cases J n i m at) [ inl old ↦ legal.once i old | inr new ↦ absurd (other new.1) ];
-  rising = λ i j before at mine. legal.rising i j before (slice_get-push_below J n i j (omega arith) at) mine;
-  phases = λ i j before at. legal.phases i j before (slice_get-push_below J n i j (omega arith) at);
-  enabled = subst (λ f. enabled_in (op_at s m) (λ op. is_enabled op f) ≡ true) (sym (state_in-push s (bytes_of s) A J n k (omega arith)))
-      legal.enabled;
-}
+IsLegalEntry-longer {s} {A} {J} n {k} {m} below other legal = grind (arith, common_steps, slice_get-push_cases, slice_get-push_below, state_in-push)
 
 -- the new line as an entry
 IsLegalEntry-new : {s : Job} {A B : Answering} {p : List ℕ} {J : List ℕ} {n : ℕ} {a : Answer} → AddsAnswer A n a B → ComesNext s A n

@@ -22,15 +22,7 @@ pub record IsFirstLine (bs : List ℕ) (i : ℕ) : Type 0 where
   pub within : i < length bs
 
 pub first_line : (bs : List ℕ) (i : ℕ) → position is_line_feed bs ≡ Some i → IsFirstLine bs i
-first_line bs i e =
-    let p = some_position bs i e in
-    let n = position_or_len is_line_feed bs in
-    let rest = drop (n + 1) bs in
-    let parts = slice_split_first is_line_feed bs 0 (rw (← p.0) p.1) in
-    let some : 0 < length (slice_split is_line_feed rest) = omega (arith, length-slice_split is_line_feed rest) in
-    let first : lines_of bs ≡ take n bs ∷ lines_of rest = ap without_empty_end parts
-    ∙ keeps_end (take n bs) (slice_split is_line_feed rest) some in
-    record { lines = rw p.0 first; within = p.1 }
+first_line bs i e = grind (arith, common_steps, some_position, slice_split_first, length, length-slice_split, keeps_end)
 
 no_position : (bs : List ℕ) → position is_line_feed bs ≡ None → length bs ≤ position_or_len is_line_feed bs
 no_position bs e = grind (arith, nat_tests)

@@ -1,4 +1,5 @@
 -- An answer that fits a legal journal is printable, where the bytes that it shows are compared.
+use Rattle.fs_types.proofs.Common.{common_steps}
 use Rattle.fs_types.proofs.Common.{◌≡◌, ℕ, ◌^◌, ◌<◌, nat_le, List, length, drop, Option, Some, None, sym, subst, arith, div-le_self}
 use Rattle.fs_types.proofs.Common.{cond_both, leb-true, All-take, All-drop, recursion_from_All}
 use Rattle.md5.specs.Md5.{md5}
@@ -28,10 +29,7 @@ slots_are_few w (ops.Read off len) slots is accepts = absurd accepts
 
 -- bytes are shown as they are, or by their digest
 IsPrintableBody-body_of : (bytes : List ℕ) → AllBytes bytes → IsPrintableBody (body_of bytes)
-IsPrintableBody-body_of bytes are =
-    cond_both (nat_le (length bytes) HEX_LIMIT) (bodies.Hex bytes) (bodies.Md5 (md5 bytes)) IsPrintableBody
-    (λ short. record { size = leb-true (length bytes) HEX_LIMIT short; bytes = recursion_from_All (λ b. b < 256) bytes are })
-    (λ _. IsDigest-md5 bytes)
+IsPrintableBody-body_of bytes are = grind (arith, common_steps, length, leb-true, recursion_from_All, IsDigest-md5)
 
 -- a range of a file has no more bytes than the file
 range_is_printable : (compared : Type 0) (x : Option Range) (f : File ℕ) (n : ℕ) (body : Body)

@@ -21,9 +21,7 @@ committed-own s A n o is = grind (arith, common_steps, cond-true, bytes_eq-Decid
 
 -- and to another
 pub committed-off : (s : Job) (A : Answering) (n : ℕ) (o : OpLine) (p : List ℕ) → op_at s n ≡ Some o → o.path ≢ p → committed s A p n ≡ None
-committed-off s A n o p is off =
-    let no = false_from_ne_true (bytes_eq o.path p) (λ same. off ((bytes_eq-Decides o.path p).0 same)) in
-    ap (commit_in s A p n) is ∙ cond-false (bytes_eq o.path p) (commit_by o.op (pending s A o.rank o.path n) (A n)) None no
+committed-off s A n o p is off = grind (arith, common_steps, false_from_ne_true, bytes_eq-Decides, cond-false)
 
 -- ---- before any answer
 

@@ -1,4 +1,5 @@
 -- The text of a printable report reads as that report, whatever follows it.
+use Rattle.fs_types.proofs.Common.{common_steps}
 use Rattle.fs_types.proofs.Common.{◌≡◌, ℕ, zero, suc, Result, ◌==◌, slice_index, ◌^◌, ◌<◌, Bool, true, false, List, [], ◌∷◌, ◌++◌, map}
 use Rattle.fs_types.proofs.Common.{length, codes, refl, sym, ap, ◌∙◌, subst, arith, AllByRecursion, flat_map, decimal, result_unwrap_or}
 use Rattle.fs_types.proofs.Common.{decimal_is_IsNumeral, append_cancel_left}
@@ -52,10 +53,7 @@ HasWords-one word h = record { above = AreAbove-lower 10 32 word (omega arith) h
 -- a word and a space before a line
 HasWords-more : (word rest : List ℕ) (words : List (List ℕ)) → AreAbove 32 word → HasWords rest words
     → HasWords (word ++ 32 ∷ rest) (word ∷ words)
-HasWords-more word rest words h more = record {
-  above = AreAbove-append 10 word (32 ∷ rest) (AreAbove-lower 10 32 word (omega arith) h) more.above;
-  cut = cut_at-first 32 word rest h ∙ ap (λ ws. word ∷ ws) more.cut;
-}
+HasWords-more word rest words h more = grind (arith, common_steps, AreAbove-append, AreAbove-lower, cut_at-first)
 
 -- the same for an equal line
 HasWords-same : (line same : List ℕ) (words : List (List ℕ)) → line ≡ same → HasWords same words → HasWords line words
@@ -64,9 +62,7 @@ HasWords-same line same words e h = subst (λ l. HasWords l words) (sym e) h
 -- a line reads as its words, before what follows it
 read-line : (line rest : List ℕ) (words : List (List ℕ)) → HasWords line words
     → read ((line ++ line_feed) ++ rest) ≡ with_line words (read rest)
-read-line line rest words h =
-    ap (λ bytes. read bytes) (append_assoc line line_feed rest)
-    ∙ (ap (λ lines. read_lines lines) (cut_at-first 10 line rest h.above) ∙ ap (λ ws. with_line ws (read rest)) h.cut)
+read-line line rest words h = grind (arith, common_steps, read, cut_at-first)
 
 -- ---- answers
 
@@ -247,13 +243,7 @@ read-path_lines (j ∷ js) (f ∷ fs) rest same h k =
 
 -- the text of a printable report reads as that report, whatever follows
 pub read-text : (R : Report) (more : List ℕ) → IsPrintable R → read (text R ++ more) ≡ R
-read-text R more h =
-    let end = codes "end" ++ 10 ∷ more in
-    let paths = path_lines R.journals R.files in
-    let assoc : text R ++ more ≡ flat_map answer_line R.answers ++ (paths ++ end) = simp append_assoc in
-    ap (λ bytes. read bytes) assoc ∙ (read-answers R.answers (paths ++ end) h.answers
-    ∙ (ap (λ (S : Report). with_all R.answers [] [] S) (read-path_lines R.journals R.files end h.as_many h.journals h.files)
-    ∙ simp append-nil))
+read-text R more h = grind (arith, common_steps, text, read, read-answers, read-path_lines, append-nil)
 
 -- two printable reports with one text are one report
 pub same_report : (R S : Report) → IsPrintable R → IsPrintable S → text R ≡ text S → R ≡ S
