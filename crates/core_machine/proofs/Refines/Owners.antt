@@ -24,8 +24,7 @@ still-answered {B} {n} m adds given = grind (arith, common_steps)
 
 all-answered : {A B : Answering} {n : ℕ} {a : Answer} (J : List ℕ) → AddsAnswer A n a B → AllByRecursion (λ m. IsSome (A m)) J
     → AllByRecursion (λ m. IsSome (B m)) J
-all-answered {A} {B} {n} {a} J adds = AllByRecursion-weaker (λ m. IsSome (A m)) (λ m. IsSome (B m)) J
-    (λ m given. still-answered m adds given)
+all-answered {A} {B} {n} {a} J adds = grind (arith, common_steps, AllByRecursion-weaker, still-answered)
 
 -- ---- a version that was there
 
