@@ -1,4 +1,5 @@
 -- The paths of a script's lines: which they are, their order, and their places.
+use Rattle.fs_types.proofs.Common.{common_steps}
 use Rattle.std.specs.List.Sorted.{IsStrictlySortedBy}
 use Rattle.fs_types.proofs.Common.{◌≡◌, ℕ, zero, suc, ◌+◌, ◌-◌, ◌<◌, ◌≤◌, Bool, true, false, cond, ltb, ltb-false, not, List, [], ◌∷◌, ◌++◌}
 use Rattle.fs_types.proofs.Common.{length, take, get_or, position, Option, Some, None, Contains, Vec, nat_eq, refl, sym, ap, subst, ◌∙◌}
@@ -24,14 +25,7 @@ module _ {A : Type 0} where
   -- an inserted vector brings its bytes
   pub texts-insert_key : (vs : List (Vec ℕ A)) (v : Vec ℕ A)
       → texts (insert_key (λ x y. pointwise nat_eq x.items y.items) vs v) ≡ with_path (texts vs) v.items
-  texts-insert_key vs v = by (list_any (λ x. bytes_eq v.items x.items) vs) refl
-    where
-      by : (b : Bool) → list_any (λ x. bytes_eq v.items x.items) vs ≡ b
-          → texts (insert_key (λ x y. pointwise nat_eq x.items y.items) vs v) ≡ with_path (texts vs) v.items
-      by true e = ap (λ b. texts (if b then vs else vs ++ v ∷ [])) e
-          ∙ sym (ap (λ b. if b then texts vs else texts vs ++ v.items ∷ []) (list_any-texts v.items vs ∙ e))
-      by false e = ap (λ b. texts (if b then vs else vs ++ v ∷ [])) e ∙ map_push (λ x. x.items) vs v
-          ∙ sym (ap (λ b. if b then texts vs else texts vs ++ v.items ∷ []) (list_any-texts v.items vs ∙ e))
+  texts-insert_key vs v = grind (arith, common_steps, list_any-texts, map_push)
 
   -- bytes that are there bring no path
   pub with_path-there : (vs : List (Vec ℕ A)) (p : List ℕ) → list_any (λ v. bytes_eq p v.items) vs ≡ true
@@ -79,9 +73,7 @@ Less-from_others Greater unequal ungreater = absurd (ungreater refl)
 module _ {K : Type 0} {R : K → K → Ordering} (order : IsTotalOrder R) {E : K → K → Bool} (ties : (x y : K) → E x y ≡ eq_by_cmp R x y) where
   -- an element is below the next where the next is not below it, nor equal to it
   Less-from_neighbours : (x y : K) → is_lt (R y x) ≡ false → E x y ≡ false → R x y ≡ Less
-  Less-from_neighbours x y not_after apart =
-      Less-from_others (R x y) (λ e. true≢false (sym (ties x y ∙ ap is_eq e) ∙ apart))
-      (λ e. true≢false (sym (ap is_lt (order.antisymm y x) ∙ (ap (λ x. is_lt (ordering_reverse x)) e)) ∙ not_after))
+  Less-from_neighbours x y not_after apart = grind (arith, common_steps)
 
   -- so a sorted list of distinct elements rises
   IsStrictlySortedBy-from_distinct : (ks : List K) → IsSorted R ks → IsDistinct E ks → IsStrictlySortedBy R ks
@@ -112,15 +104,7 @@ slice_get-position ps p = by (position (λ q. bytes_eq q p) ps) refl
 
 -- a path without a place is not among them
 pub absent-from_position : (ps : List (List ℕ)) (p : List ℕ) → IfNone (position (λ q. bytes_eq q p) ps) (Contains ps p → ⊥)
-absent-from_position ps p = by (ltb (position_or_len (λ q. bytes_eq q p) ps) (length ps)) refl
-  where
-    by : (b : Bool) → ltb (position_or_len (λ q. bytes_eq q p) ps) (length ps) ≡ b
-        → IfNone (cond b (Some (position_or_len (λ q. bytes_eq q p) ps)) None) (Contains ps p → ⊥)
-    by true e = tt
-    by false e = λ there.
-        let past : length ps ≤ position_or_len (λ q. bytes_eq q p) ps = ltb-false _ _ e in
-        true≢false (sym ((bytes_eq-Decides (get_or ps there.0 p) p).1 there.2)
-        ∙ fails_before_first (λ q. bytes_eq q p) ps there.0 p (omega (arith, past, there.1)))
+absent-from_position ps p = grind (arith, common_steps, length, bytes_eq-Decides, fails_before_first)
 
 -- ---- the paths of lines
 -- one line more brings its path
@@ -147,19 +131,11 @@ same_from_bytes p q e = (bytes_eq-Decides p q).0 e
 
 -- a path that is added takes none away
 Contains-with_path : (ps : List (List ℕ)) (p q : List ℕ) → Contains ps q → Contains (with_path ps p) q
-Contains-with_path ps p q there = by (list_any (bytes_eq p) ps)
-  where
-    by : (b : Bool) → Contains (if b then ps else ps ++ p ∷ []) q
-    by true = there
-    by false = Contains-append_left ps (p ∷ []) q there
+Contains-with_path ps p q there = grind (arith, common_steps)
 
 -- and nothing else comes
 Contains-with_path-cases : (ps : List (List ℕ)) (p q : List ℕ) → Contains (with_path ps p) q → Contains ps q ⊎ (p ≡ q)
-Contains-with_path-cases ps p q = by (list_any (bytes_eq p) ps)
-  where
-    by : (b : Bool) → Contains (if b then ps else ps ++ p ∷ []) q → Contains ps q ⊎ (p ≡ q)
-    by true there = inl there
-    by false there = Contains-push_cases ps p q there
+Contains-with_path-cases ps p q = grind (arith, common_steps)
 
 -- an operation's path takes none away
 Contains-with_op : (ps : List (List ℕ)) (o : Option OpLine) (q : List ℕ) → Contains ps q → Contains (with_op ps o) q

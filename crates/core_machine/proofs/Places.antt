@@ -1,4 +1,5 @@
 -- Clients whose lines were answered up to a place of their programs: the line that comes next, and what an answer changes.
+use Rattle.fs_types.proofs.Common.{common_steps}
 use Rattle.fs_types.proofs.Common.{◌≡◌, ◌≢◌, ℕ, ◌+◌, ◌<◌, length, Option, Some, None, IsSome, is_some, slice_get, sym, ap, ◌∙◌, subst, refl}
 use Rattle.fs_types.proofs.Common.{inl, inr, arith, cases_eq, ltb-true, lt-ltb, le-ltb, nat_tests, same_Some, none-some}
 use Rattle.fs_script.specs.Vocabulary.{Answer, Job, op_at, rank_in, rank_at, is_of_rank, program, Answering, AddsAnswer, ComesNext}
@@ -12,10 +13,7 @@ pub record StandsNext (s : Job) (A : Answering) (r place n : ℕ) : Type 0 where
 
 -- a line of a client is an operation of it
 rank-op : (s : Job) (k q : ℕ) → rank_at s k ≡ Some q → (o : OpLine) × (op_at s k ≡ Some o) × (o.rank ≡ q)
-rank-op s k q is = by (op_at s k) refl where
-  by : (x : Option OpLine) → op_at s k ≡ x → (o : OpLine) × (op_at s k ≡ Some o) × (o.rank ≡ q)
-  by None e = absurd (none-some q (sym (ap rank_in e) ∙ is))
-  by (Some o) e = (o, e, same_Some o.rank q (sym (ap rank_in e) ∙ is))
+rank-op s k q is = grind (arith, common_steps)
 
 module _ {s : Job} {A : Answering} {r place n : ℕ} (t : StandsNext s A r place n) where
   pub unanswered : A n ≡ None
@@ -31,14 +29,7 @@ module _ {s : Job} {A : Answering} {r place n : ℕ} (t : StandsNext s A r place
 
   -- it comes next
   pub comes_next : ComesNext s A n
-  comes_next = record {
-    fresh = unanswered;
-    last = λ k a given same.
-        let mine = program-op s r place n t.here in
-        let of_rank : rank_at s k ≡ Some r = same ∙ ap rank_in mine.1 ∙ ap Some mine.2 in
-        let op = rank-op s k r of_rank in
-        before k op.0 (ap is_some given) op.1 op.2;
-  }
+  comes_next = grind (arith, common_steps, unanswered, program-op, rank-op, before)
 
   -- once it was answered, the client's place is one more
   pub upto-own : (B : Answering) (a : Answer) → AddsAnswer A n a B → IsAnsweredUpTo s B r (place + 1)
@@ -55,7 +46,4 @@ module _ {s : Job} {A : Answering} {r place n : ℕ} (t : StandsNext s A r place
 -- another client's place stays
 pub upto-other : (s : Job) {A B : Answering} (q : ℕ) {n : ℕ} (place : ℕ) (o : OpLine) {a : Answer} → AddsAnswer A n a B → op_at s n ≡ Some o
     → o.rank ≢ q → IsAnsweredUpTo s A q place → IsAnsweredUpTo s B q place
-upto-other s q {n} place o adds is other upto k j at =
-    let op = program-op s q k j at in
-    let another : j ≢ n = λ e. other (ap (λ l. l.rank) (same_Some o op.0 (sym is ∙ ap (op_at s) (sym e) ∙ op.1)) ∙ op.2) in
-    ap is_some (adds.others j another) ∙ upto k j at
+upto-other s q {n} place o adds is other upto k j at = grind (arith, common_steps, program-op)

@@ -1,5 +1,6 @@
 -- What the answers before a line decide: its client's pending writes, the version it has seen, and whether its path is open.
 -- Answers that agree at that client's lines on that path before the line give the same.
+use Rattle.fs_types.proofs.Common.{common_steps}
 use Rattle.fs_types.proofs.Common.{◌≡◌, ℕ, zero, suc, ◌≤◌, List, [], Option, Some, None, IsSome, bytes_eq, cond, refl, ap, ◌∙◌, arith}
 use Rattle.fs_types.proofs.Common.{cond_both, nat_tests}
 use Rattle.fs_script.specs.Vocabulary.{Answer, answer_at, put_answer, File, Op, OpLine, Job, op_at, own_at, Cells, Answering, after_answer}
@@ -57,7 +58,4 @@ committed-unanswered s A p n e = commit_in-unanswered s A p n (op_at s n) e
 
 -- an answer that is put is the only one that comes
 pub AddsAnswer-put : (xs : List (ℕ × Answer)) (n : ℕ) (a : Answer) → AddsAnswer (answer_at xs) n a (answer_at (put_answer n a xs))
-AddsAnswer-put xs n a = record {
-  added = answer_at-put_answer xs n n a ∙ grind (arith, nat_tests);
-  others = λ k other. answer_at-put_answer xs n k a ∙ grind (arith, nat_tests);
-}
+AddsAnswer-put xs n a = grind (arith, common_steps, answer_at-put_answer)

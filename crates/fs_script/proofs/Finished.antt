@@ -1,4 +1,5 @@
 -- A job that is legal so far, with an answer to each of its operations, has a legal report.
+use Rattle.fs_types.proofs.Common.{common_steps}
 use Rattle.fs_types.proofs.Common.{◌≡◌, ℕ, zero, suc, ◌<◌, ◌==◌, List, [], ◌∷◌, length, map, Some, IsSome, is_some, Contains}
 use Rattle.fs_types.proofs.Common.{slice_index_or, refl, sym, ap, subst, arith, cond_both, eqb-false, slice_get_within}
 use Rattle.fs_types.proofs.Common.{get_or_from_slice_get}
@@ -29,9 +30,7 @@ answer_at-listed (x ∷ xs) n (suc k) below same = cond_both (x.0 == n) (Some x.
 
 -- a report of the right shape answers each operation
 answered-in_report : {s : Job} {R : Report} (n : ℕ) (o : OpLine) → HasShape s R → op_at s n ≡ Some o → IsSome (answers_of R n)
-answered-in_report {s} {R} n o shape is =
-    let there = subst (λ xs. Contains xs n) (sym shape.answers) (op_lines-contains s n o is) in
-    answer_at-listed R.answers n there.0 there.1 there.2
+answered-in_report {s} {R} n o shape is = grind (arith, common_steps, op_lines-contains, answer_at-listed)
 
 pub IsLegal-finished : {told : List ℕ} {s : Job} {R : Report} → HasShape s R → FilesAreStates s R
     → IsLegalSoFar told s (answers_of R) (journal_of R.journals) → IsLegal s R told

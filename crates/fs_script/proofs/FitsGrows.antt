@@ -1,5 +1,6 @@
 -- An answer that fits goes on fitting: as answers come that change nothing before its line or pending at the journal's lines,
 -- and as the journal grows at its end by lines of no earlier phase.
+use Rattle.fs_types.proofs.Common.{common_steps}
 use Rattle.fs_types.proofs.Common.{◌≡◌, ℕ, zero, suc, ◌≤◌, Bool, true, false, IsTrue, List, [], ◌∷◌, ◌++◌, length, Option, Some, None}
 use Rattle.fs_types.proofs.Common.{IsSome, IsNone, IfSome, MatchBool, sym, subst, arith, AllByRecursion, none-some, take-append-le}
 use Rattle.fs_types.proofs.Common.{length_push}
@@ -58,11 +59,7 @@ entry-push J m (suc k) n h = slice_get-push J m k n h
 
 IsInReach-push : {s : Job} {A : Answering} {J : List ℕ} (m : ℕ) {n : ℕ} {o : OpLine} {v : ℕ} → phase s n ≤ phase s m → IsInReach s A J n o v
     → IsInReach s A (J ++ m ∷ []) n o v
-IsInReach-push {s} {A} {J} m {n} {o} {v} later reach = record {
-  front = subst (λ k. k ≤ v) (sym (front-push s A J o.rank o.path n m later)) reach.front;
-  length = omega (arith, length_push J m, reach.length);
-  no_later = subst (λ K. AllByRecursion (λ k. IsNoLater s o.rank n k) K) (sym (take-append-le v J (m ∷ []) reach.length)) reach.no_later;
-}
+IsInReach-push {s} {A} {J} m {n} {o} {v} later reach = grind (arith, common_steps)
 
 IfSome-push : (s : Job) (A : Answering) (J : List ℕ) (m n : ℕ) (o : OpLine) (v : Option ℕ) → phase s n ≤ phase s m
     → IfSome v (λ w. IsInReach s A J n o w) → IfSome v (λ w. IsInReach s A (J ++ m ∷ []) n o w)

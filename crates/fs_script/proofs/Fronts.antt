@@ -1,4 +1,5 @@
 -- Phases rise with the lines, and a front doesn't change while the journal grows by lines of no earlier phase.
+use Rattle.fs_types.proofs.Common.{common_steps}
 use Rattle.fs_types.proofs.Common.{◌≡◌, ℕ, ◌+◌, ◌-◌, ◌≤◌, List, [], ◌∷◌, ◌++◌, length, max, cond, nat_lt, ap, ◌∙◌, le-ltb, arith}
 use Rattle.fs_types.proofs.Common.{sum_by_push, count_by-le-length}
 use Rattle.fs_script.specs.Vocabulary.{Job, is_barrier, phase, Answering, seen, of_earlier_phases, front, AgreeBefore}
@@ -14,9 +15,7 @@ of_earlier_phases-le-length s n J = count_by-le-length (λ m. nat_lt (phase s m)
 -- a line of no earlier phase than n, put at the end, is none of the earlier phases
 pub of_earlier_phases-push : (s : Job) (n m : ℕ) (J : List ℕ) → phase s n ≤ phase s m
     → of_earlier_phases s n (J ++ m ∷ []) ≡ of_earlier_phases s n J
-of_earlier_phases-push s n m J le =
-    let e = le-ltb (phase s m) (phase s n) le in
-    sum_by_push (λ k. cond (nat_lt (phase s k) (phase s n)) 1 0) J m ∙ (ap (λ b. of_earlier_phases s n J + cond b 1 0) e ∙ omega arith)
+of_earlier_phases-push s n m J le = grind (arith, common_steps)
 
 pub front-push : (s : Job) (A : Answering) (J : List ℕ) (r : ℕ) (p : List ℕ) (n m : ℕ) → phase s n ≤ phase s m
     → front s A (J ++ m ∷ []) r p n ≡ front s A J r p n

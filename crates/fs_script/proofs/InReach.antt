@@ -1,4 +1,5 @@
 -- A line that is answered now: its front is at most the present length of the journal, and which versions it may print.
+use Rattle.fs_types.proofs.Common.{common_steps}
 use Rattle.fs_types.proofs.Common.{◌≡◌, ℕ, zero, suc, ◌≤◌, ◌<◌, List, [], ◌∷◌, length, Option, Some, None, IsSome, ◌++◌, ◌==◌, ◌&&◌}
 use Rattle.fs_types.proofs.Common.{bytes_eq, eqb-true, refl, sym, ap, ◌∙◌, arith, ⊤, none-some, cond_some, MatchOption-at_some, and_parts}
 use Rattle.fs_types.proofs.Common.{length_push, bytes_eq-Decides, AllByRecursion}
@@ -32,10 +33,7 @@ seen-le s A r p (suc n) k each =
 pub front-le-length : (s : Job) (A : Answering) (J : List ℕ) (r : ℕ) (p : List ℕ) (n : ℕ)
     → ((m : ℕ) (a : Answer) (v : ℕ) → m < n → IsSome (own_at s r p m) → A m ≡ Some a → version_of a ≡ Some v → v ≤ length J)
     → front s A J r p n ≤ length J
-front-le-length s A J r p n each =
-    let saw = seen-le s A r p n (length J) each in
-    let earlier = of_earlier_phases-le-length s n J in
-    omega arith
+front-le-length s A J r p n each = grind (arith, common_steps, seen-le, of_earlier_phases-le-length)
 
 -- ---- where every answered line of the path fits the journal
 

@@ -1,4 +1,5 @@
 -- A legal journal stays legal as an answer comes: unchanged where the answer commits nothing, and with the line at its end where it does.
+use Rattle.fs_types.proofs.Common.{common_steps}
 use Rattle.fs_types.proofs.Common.{◌≡◌, ◌≢◌, ℕ, suc, ◌≤◌, ◌<◌, true, List, [], ◌∷◌, ◌++◌, length, Option, Some, None, IsSome, is_some, cond}
 use Rattle.fs_types.proofs.Common.{◌==◌, ◌&&◌, bytes_eq, slice_get, Contains, true≢false, eqb-true, refl, sym, ap, ◌∙◌, subst, subst₂, inl}
 use Rattle.fs_types.proofs.Common.{inr, arith, cases_eq, cases_Bool, and_parts, none-some, slice_get_within, Contains-append_left}
@@ -29,11 +30,7 @@ AgreeBefore-next s r p m adds le k below own = sym (adds.others k (λ e. omega a
 -- before a line that was answered, nothing of its client changes
 pub AgreeBefore-answered : {s : Job} (p : List ℕ) {A B : Answering} (m : ℕ) {n : ℕ} {a : Answer} (b : Answer) (r : ℕ) → AddsAnswer A n a B
     → ComesNext s A n → A m ≡ Some b → rank_at s m ≡ Some r → AgreeBefore s r p A B m
-AgreeBefore-answered {s} p m {n} b r adds next answered of_rank k below own =
-    sym (adds.others k (λ e.
-    let mine : rank_at s n ≡ Some r = subst (λ j. rank_at s j ≡ Some r) e (own_op-rank r p (op_at s k) own) in
-    let last : m < n = next.last m b answered (of_rank ∙ sym mine) in
-    omega arith))
+AgreeBefore-answered {s} p m {n} b r adds next answered of_rank k below own = grind (arith, common_steps)
 
 -- a line that has an answer isn't the new one
 answered≢next : {s : Job} {A : Answering} (m : ℕ) {n : ℕ} (b : Answer) → ComesNext s A n → A m ≡ Some b → m ≢ n
@@ -76,10 +73,7 @@ committed-other {s} {A} {B} p m {n} {a} adds next other = by (A m) refl where
 -- ---- the lines of a legal journal
 
 answered_from-commit : (s : Job) (A : Answering) (p : List ℕ) (m v : ℕ) → committed s A p m ≡ Some v → IsSome (A m)
-answered_from-commit s A p m v h = by (A m) refl where
-  by : (x : Option Answer) → A m ≡ x → IsSome (A m)
-  by None e = absurd (none-some v (sym (committed-unanswered s A p m e) ∙ h))
-  by (Some b) e = ap is_some e
+answered_from-commit s A p m v h = grind (arith, common_steps)
 
 -- each of them was answered
 pub answered-in_journal : {s : Job} {A : Answering} {p : List ℕ} {J : List ℕ} (k m : ℕ) → IsLegalJournal s A p J → slice_get J k ≡ Some m
@@ -96,22 +90,13 @@ pending_at-in_journal {s} {A} {B} {p} {J} {n} {a} adds next legal =
 
 -- nothing was answered, so nothing was committed
 pub IsLegalJournal-none : (s : Job) (A : Answering) (p : List ℕ) → ((n : ℕ) → A n ≡ None) → IsLegalJournal s A p []
-IsLegalJournal-none s A p none = record {
-  entries = λ k n at. absurd (none-some n at);
-  whole = λ n v h. absurd (none-some v (sym (committed-unanswered s A p n (none n)) ∙ h));
-}
+IsLegalJournal-none s A p none = grind (arith, common_steps)
 
 -- ---- an answer that commits nothing to the path
 
 IsLegalEntry-same : {s : Job} {A : Answering} (B : Answering) {p : List ℕ} {J : List ℕ} {k m : ℕ} → committed s A p m ≡ committed s B p m
     → state s A J k ≡ state s B J k → IsLegalEntry s A p J k m → IsLegalEntry s B p J k m
-IsLegalEntry-same {s} B {m} commits states legal = record {
-  committed = sym commits ∙ legal.committed;
-  once = legal.once;
-  rising = legal.rising;
-  phases = legal.phases;
-  enabled = subst (λ f. enabled_in (op_at s m) (λ op. is_enabled op f) ≡ true) states legal.enabled;
-}
+IsLegalEntry-same {s} B {m} commits states legal = grind (arith, common_steps)
 
 pub IsLegalJournal-kept : {s : Job} {A B : Answering} {p : List ℕ} {J : List ℕ} {n : ℕ} {a : Answer} → AddsAnswer A n a B → ComesNext s A n
     → committed s B p n ≡ None → IsLegalJournal s A p J → IsLegalJournal s B p J
@@ -131,14 +116,7 @@ IsLegalJournal-kept {s} {A} {B} {p} {J} {n} {a} adds next none legal =
 -- an old entry in the longer journal
 IsLegalEntry-longer : {s : Job} {A : Answering} {p : List ℕ} {J : List ℕ} (n : ℕ) {k m : ℕ} → k < length J → m ≢ n
     → IsLegalEntry s A p J k m → IsLegalEntry s A p (J ++ n ∷ []) k m
-IsLegalEntry-longer {s} {A} {J} n {k} {m} below other legal = record {
-  committed = legal.committed;
-  once = λ i at. elim (slice_get-push_cases J n i m at) [ inl old ↦ legal.once i old | inr new ↦ absurd (other new.1) ];
-  rising = λ i j before at mine. legal.rising i j before (slice_get-push_below J n i j (omega arith) at) mine;
-  phases = λ i j before at. legal.phases i j before (slice_get-push_below J n i j (omega arith) at);
-  enabled = subst (λ f. enabled_in (op_at s m) (λ op. is_enabled op f) ≡ true) (sym (state_in-push s (bytes_of s) A J n k (omega arith)))
-      legal.enabled;
-}
+IsLegalEntry-longer {s} {A} {J} n {k} {m} below other legal = grind (arith, common_steps, slice_get-push_cases, slice_get-push_below, state_in-push)
 
 -- the new line as an entry
 IsLegalEntry-new : {s : Job} {A B : Answering} {p : List ℕ} {J : List ℕ} {n : ℕ} {a : Answer} → AddsAnswer A n a B → ComesNext s A n

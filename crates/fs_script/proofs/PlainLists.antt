@@ -1,5 +1,6 @@
 -- Plain lists, ranges and options, in the forms that the definitions of this crate have: `AllByRecursion` and
 -- `slice_get`, where std's lemmas have `All` and `get_or`.
+use Rattle.fs_types.proofs.Common.{common_steps}
 use Rattle.fs_types.proofs.Common.{◌≡◌, ℕ, zero, suc, ◌+◌, ◌≤◌, ◌<◌, Bool, true, false, List, [], ◌∷◌, ◌++◌, map, length, take, get_or}
 use Rattle.fs_types.proofs.Common.{slice_get, count_by, cond, Option, Some, None, IsSome, is_some, ◌⊎◌, inl, inr, true≢false, refl, sym, ap}
 use Rattle.fs_types.proofs.Common.{◌∙◌, subst, subst₂, take-take, All, arith, AllByRecursion, filter, range_with_len, cond_both, cond-true}
@@ -125,13 +126,7 @@ module _ (P : ℕ → Bool) (a len : ℕ) where
   -- no two of them are one
   pub passing-places : (i k n : ℕ) → slice_get (filter P (range_with_len a len)) i ≡ Some n
       → slice_get (filter P (range_with_len a len)) k ≡ Some n → i ≡ k
-  passing-places i k n at at' = elim (cases_order i k) [
-    | inl same ↦ same
-    | inr other ↦ elim other [
-      | inl less ↦ let rises = passing-rise i k n n less at at' in absurd (omega arith)
-      | inr more ↦ let rises = passing-rise k i n n more at' at in absurd (omega arith)
-    ]
-  ]
+  passing-places i k n at at' = grind (arith, common_steps, cases_order, passing-rise)
 
 -- each number of the range that passes has a place
 pub passing-place : (P : ℕ → Bool) (a len n : ℕ) → P n ≡ true → a ≤ n → n < a + len

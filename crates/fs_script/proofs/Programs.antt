@@ -1,4 +1,6 @@
 -- A client's program: its lines rise, and each of the client's operations stands in it.
+use Rattle.fs_types.proofs.Common.{common_steps}
+use Rattle.fs_types.proofs.Common.{arith}
 use Rattle.fs_types.proofs.Common.{◌≡◌, ℕ, true, length, Option, Some, None, true≢false, eqb-true, refl, sym, ap, ◌∙◌, slice_get, eq-eqb}
 use Rattle.fs_script.specs.Vocabulary.{OpLine, Job, op_at, is_of_rank, program}
 use Rattle.fs_script.proofs.Jobs.{op_at-within}
@@ -8,10 +10,7 @@ use Rattle.fs_script.proofs.PlainLists.{passes, passing-place}
 
 -- it stands in its client's program
 pub program-place : (s : Job) (n : ℕ) (o : OpLine) → op_at s n ≡ Some o → (k : ℕ) × (slice_get (program s o.rank) k ≡ Some n)
-program-place s n o is =
-    let within = op_at-within s n o is in
-    passing-place (λ m. is_of_rank o.rank (op_at s m)) 2 (length s.lines) n (ap (is_of_rank o.rank) is
-    ∙ eq-eqb o.rank o.rank refl) within.0 within.1
+program-place s n o is = grind (arith, common_steps, op_at-within, passing-place, length, eq-eqb)
 
 of_rank : (r : ℕ) (o : Option OpLine) → is_of_rank r o ≡ true → (l : OpLine) × (o ≡ Some l) × (l.rank ≡ r)
 of_rank r None h = absurd (true≢false (sym h))

@@ -1,4 +1,5 @@
 -- A job stays legal so far as its next answer comes: one that commits nothing, or one whose line comes to the end of its path's journal.
+use Rattle.fs_types.proofs.Common.{common_steps}
 use Rattle.fs_types.proofs.Common.{◌≡◌, ◌≢◌, ℕ, suc, ◌≤◌, true, List, [], ◌∷◌, ◌++◌, length, Some, None, is_some, bytes_eq, true≢false}
 use Rattle.fs_types.proofs.Common.{refl, sym, ap, ◌∙◌, subst, inl, inr, arith, cases_eq, cases_Bool, cond-true, cond-false}
 use Rattle.fs_types.proofs.Common.{false_from_ne_true, none-some, same_Some, bytes_eq-Decides}
@@ -16,35 +17,24 @@ use Rattle.fs_script.proofs.PlainLists.{AllByRecursion-from_get, AllByRecursion-
 -- to its own path
 pub committed-own : (s : Job) (A : Answering) (n : ℕ) (o : OpLine) → op_at s n ≡ Some o
     → committed s A o.path n ≡ commit_by o.op (pending s A o.rank o.path n) (A n)
-committed-own s A n o is =
-    ap (commit_in s A o.path n) is ∙ cond-true (bytes_eq o.path o.path) (commit_by o.op (pending s A o.rank o.path n) (A n)) None
-    ((bytes_eq-Decides o.path o.path).1 refl)
+committed-own s A n o is = grind (arith, common_steps, cond-true, bytes_eq-Decides)
 
 -- and to another
 pub committed-off : (s : Job) (A : Answering) (n : ℕ) (o : OpLine) (p : List ℕ) → op_at s n ≡ Some o → o.path ≢ p → committed s A p n ≡ None
-committed-off s A n o p is off =
-    let no = false_from_ne_true (bytes_eq o.path p) (λ same. off ((bytes_eq-Decides o.path p).0 same)) in
-    ap (commit_in s A p n) is ∙ cond-false (bytes_eq o.path p) (commit_by o.op (pending s A o.rank o.path n) (A n)) None no
+committed-off s A n o p is off = grind (arith, common_steps, false_from_ne_true, bytes_eq-Decides, cond-false)
 
 -- ---- before any answer
 
 pub IsLegalSoFar-none : (told : List ℕ) (s : Job) (A : Answering) (journals : Journals) → ((n : ℕ) → A n ≡ None)
     → ((p : List ℕ) → journals p ≡ []) → IsLegalSoFar told s A journals
-IsLegalSoFar-none told s A journals none empty = record {
-  legal = λ p. subst (λ J. IsLegalJournal s A p J) (sym (empty p)) (IsLegalJournal-none s A p none);
-  fit = λ p. record { each = λ n o a is on given. absurd (none-some a (sym (none n) ∙ given)) };
-}
+IsLegalSoFar-none told s A journals none empty = grind (arith, common_steps)
 
 -- ---- the next answer
 
 -- a line answered is the new one, or was answered before
 answered-cases : {C : Type 0} {A B : Answering} (m : ℕ) {n : ℕ} {a : Answer} (b : Answer) → AddsAnswer A n a B → B m ≡ Some b
     → (m ≡ n → a ≡ b → C) → (A m ≡ Some b → C) → C
-answered-cases {B} m {n} {a} b adds given new old =
-    elim (cases_eq m n) [
-      | inl is ↦ new is (same_Some a b (sym adds.added ∙ (ap B (sym is) ∙ given)))
-      | inr other ↦ old (sym (adds.others m other) ∙ given)
-    ]
+answered-cases {B} m {n} {a} b adds given new old = grind (arith, common_steps)
 
 -- the answers on a path go on fitting its journal, where the new one, if it is on it, fits
 AllFit-kept : {told : List ℕ} {s : Job} {A B : Answering} {J : List ℕ} {n : ℕ} {o : OpLine} {a : Answer} {p : List ℕ}

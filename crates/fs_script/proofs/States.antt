@@ -1,4 +1,5 @@
 -- The file after some lines of a journal: as the journal grows at its end, and as answers come that change nothing pending at its lines.
+use Rattle.fs_types.proofs.Common.{common_steps}
 use Rattle.fs_types.proofs.Common.{◌≡◌, ℕ, suc, ◌≤◌, List, [], ◌∷◌, ◌++◌, length, take, None, refl, sym, ap, ◌∙◌, take_all, arith}
 use Rattle.fs_types.proofs.Common.{take-append-le, length_push}
 use Rattle.fs_script.specs.Vocabulary.{File, written, Job, Cells, offset, Answering, pending_at, put_lines, effect, after_all, state_in}
@@ -27,12 +28,7 @@ state_in-push s c A J n v le = ap (λ K. after_all s c A K None) (take-append-le
 -- the new version is the last one with the effect of the new line
 pub state_in-push_last : {X : Type 0} (s : Job) (c : Cells X) (A : Answering) (J : List ℕ) (n v : ℕ) → v ≡ suc (length J)
     → state_in s c A (J ++ n ∷ []) v ≡ effect s c A n (state_in s c A J (length J))
-state_in-push_last s c A J n v is =
-    let size = length_push J n in
-    let whole = take_all v (J ++ n ∷ []) (omega arith) in
-    let before = take_all (length J) J (omega arith) in
-    ap (λ K. after_all s c A K None) whole ∙ ((after_all-append s c A J (n ∷ []) None)
-    ∙ sym (ap (λ K. effect s c A n (after_all s c A K None)) before))
+state_in-push_last s c A J n v is = grind (arith, common_steps, length_push, length, after_all-append)
 
 -- ---- answers come
 

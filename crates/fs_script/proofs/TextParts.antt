@@ -1,4 +1,5 @@
 -- Texts that are cut at a byte: each part is of bytes above it.
+use Rattle.fs_types.proofs.Common.{common_steps}
 use Rattle.fs_types.proofs.Common.{◌≡◌, ℕ, ◌+◌, ◌^◌, ◌/◌, ◌%◌, ◌<◌, ◌≤◌, ◌==◌, true, false, ◌&&◌, List, [], ◌∷◌, ◌++◌, Some, slice_index}
 use Rattle.fs_types.proofs.Common.{refl, ◌∙◌, arith, All, nat_lt, list_all, slice_split, decimal, and_from, eq-eqb, nat_tests}
 use Rattle.fs_types.proofs.Common.{decimal_by_steps, All-weaker, list_all-append, AllPass-from_list_all, list_all-from_AllPass}
@@ -46,9 +47,7 @@ above_lower c d b le h = grind (arith, nat_tests)
 
 -- and so is a text
 pub AreAbove-lower : (c d : ℕ) (xs : List ℕ) → c ≤ d → AreAbove d xs → AreAbove c xs
-AreAbove-lower c d xs le h =
-    list_all-from_AllPass (nat_lt c) xs (All-weaker (λ b. nat_lt d b ≡ true) (λ b. nat_lt c b ≡ true) (λ b. above_lower c d b le) xs
-    (AllPass-from_list_all (nat_lt d) xs h))
+AreAbove-lower c d xs le h = grind (arith, common_steps, list_all-from_AllPass, All-weaker, above_lower, AllPass-from_list_all)
 
 -- a digit is above the space
 digit_above : (d : ℕ) → nat_lt 32 (48 + d) ≡ true

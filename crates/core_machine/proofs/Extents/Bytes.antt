@@ -1,4 +1,5 @@
 -- The bytes that extents make, one after the other, and at each place.
+use Rattle.fs_types.proofs.Common.{common_steps}
 use Rattle.fs_types.proofs.Common.{◌≡◌, ℕ, ◌+◌, ◌-◌, ◌<◌, ◌≤◌, max, min, cond, ltb, leb, List, [], ◌∷◌, ◌++◌, length, take, drop, get_or}
 use Rattle.fs_types.proofs.Common.{sym, ap, subst, ◌∙◌, arith, inl, inr, ◌&&◌, cases_lt, nat_tests, All-from_recursion, length-take-le}
 use Rattle.fs_types.proofs.Common.{length-drop, get_or_append_left, get_or-append_right, get_or-take, get_or-drop, take_more, map_push}
@@ -11,18 +12,7 @@ use Rattle.fs_script.proofs.CallerLemmas.{put_lines-append}
 -- a place of a list of which a part was written
 get_or-put_mid : (a n i : ℕ) (xs ys : List ℕ) → a + n ≤ length xs → length ys ≡ n
     → get_or (put_mid a n xs ys) i 0 ≡ cond (leb a i && ltb i (a + n)) (get_or ys (i - a) 0) (get_or xs i 0)
-get_or-put_mid a n i xs ys fits len =
-    let front : length (take a xs) ≡ a = length-take-le a xs (omega arith) in
-    elim (cases_lt i a) [
-      | inl lt ↦ get_or_append_left (take a xs) (ys ++ post_of a n xs) 0 i (omega arith) ∙ get_or-take a xs i 0 lt
-          ∙ grind (arith, nat_tests)
-      | inr le ↦ get_or-append_right (take a xs) (ys ++ post_of a n xs) a i 0 front le ∙ elim (cases_lt i (a + n)) [
-        | inl lt ↦ get_or_append_left ys (post_of a n xs) 0 (i - a) (omega arith) ∙ grind (arith, nat_tests)
-        | inr past ↦ get_or-append_right ys (post_of a n xs) n (i - a) 0 len (omega arith)
-            ∙ get_or-drop n (drop a xs) (i - a - n) 0 ∙ get_or-drop a xs (n + (i - a - n)) 0
-            ∙ (let same : a + (n + (i - a - n)) ≡ i = omega arith in ap (λ j. get_or xs j 0) same) ∙ grind (arith, nat_tests)
-      ]
-    ]
+get_or-put_mid a n i xs ys fits len = grind (arith, common_steps)
 
 -- a part of what is shown from off on takes the bytes of an extent that reaches over it
 pub overlaid : (bytes out part : List ℕ) (at len off from to k : ℕ) → from ≡ max at off → to ≡ min (at + len) (off + length out) → from < to
@@ -49,25 +39,16 @@ overlaid bytes out part at len off from to k is_from is_to lt whole is_part with
 -- the bytes of extents and one more
 bytes_of_extents-push : {s : Job} (xs : List Extent) {x : Extent} → IsExtent s x
     → bytes_of_extents s (xs ++ x ∷ []) ≡ put 0 (bytes_of_extents s xs) x.at (payload s x.line)
-bytes_of_extents-push {s} xs {x} is =
-    ap (λ (ns : List ℕ). put_lines s (bytes_of s) ns []) (map_push (λ (y : Extent). y.line) xs x)
-    ∙ put_lines-append s (bytes_of s) (lines_of_extents xs) (x.line ∷ []) []
-    ∙ (let le : offset s x.line + length (payload s x.line) ≤ LONGEST_FILE = omega (arith, is.at, is.len, is.end) in
-    (grind (arith, nat_tests))) ∙ ap (λ o. put 0 (bytes_of_extents s xs) o (payload s x.line)) (sym is.at)
+bytes_of_extents-push {s} xs {x} is = grind (arith, common_steps, map_push, put_lines-append)
 
 length-bytes_of_extents-push : {s : Job} (xs : List Extent) {x : Extent} → IsExtent s x
     → length (bytes_of_extents s (xs ++ x ∷ [])) ≡ max (length (bytes_of_extents s xs)) (x.at + x.len)
-length-bytes_of_extents-push {s} xs {x} is =
-    ap length (bytes_of_extents-push xs is) ∙ length-put 0 (bytes_of_extents s xs) x.at (payload s x.line) (omega (arith, is.some, is.len))
-    ∙ omega (arith, is.len)
+length-bytes_of_extents-push {s} xs {x} is = grind (arith, common_steps, bytes_of_extents-push, length-put)
 
 -- a byte of extents and one more
 get_or-bytes_of_extents-push : {s : Job} (xs : List Extent) {x : Extent} (k : ℕ) → IsExtent s x
     → get_or (bytes_of_extents s (xs ++ x ∷ [])) k 0 ≡ byte_over s x k (get_or (bytes_of_extents s xs) k 0)
-get_or-bytes_of_extents-push {s} xs {x} k is =
-    ap (λ (bs : List ℕ). get_or bs k 0) (bytes_of_extents-push xs is) ∙ get_or-put 0 (bytes_of_extents s xs) x.at (payload s x.line) k
-    ∙ ap (λ n. cond (leb x.at k && ltb k (x.at + n)) (get_or (payload s x.line) (k - x.at) 0) (get_or (bytes_of_extents s xs) k 0))
-    (sym is.len)
+get_or-bytes_of_extents-push {s} xs {x} k is = grind (arith, common_steps, bytes_of_extents-push, get_or-put)
 
 -- each of the extents is one
 pub IsExtent-at : (s : Job) (xs : List Extent) (i : ℕ) (x : Extent) → AreExtents s xs → i < length xs → x ≡ get_or xs i x → IsExtent s x
@@ -78,14 +59,10 @@ more xs i x lt is = take_more xs i x lt ∙ ap (λ y. take i xs ++ y ∷ []) (sy
 
 pub length-bytes_of_extents-more : (s : Job) (xs : List Extent) (i : ℕ) (x : Extent) → AreExtents s xs → i < length xs → x ≡ get_or xs i x
     → length (bytes_of_extents s (take (i + 1) xs)) ≡ max (length (bytes_of_extents s (take i xs))) (x.at + x.len)
-length-bytes_of_extents-more s xs i x are lt is =
-    ap (λ (ys : List Extent). length (bytes_of_extents s ys)) (more xs i x lt is)
-    ∙ length-bytes_of_extents-push (take i xs) (IsExtent-at s xs i x are lt is)
+length-bytes_of_extents-more s xs i x are lt is = grind (arith, common_steps, more, length-bytes_of_extents-push, IsExtent-at)
 
 pub get_or-bytes_of_extents-more : (s : Job) (xs : List Extent) (i k : ℕ) (x : Extent) → AreExtents s xs → i < length xs → x ≡ get_or xs i x
     → get_or (bytes_of_extents s (take (i + 1) xs)) k 0 ≡ byte_over s x k (get_or (bytes_of_extents s (take i xs)) k 0)
-get_or-bytes_of_extents-more s xs i k x are lt is =
-    ap (λ (ys : List Extent). get_or (bytes_of_extents s ys) k 0) (more xs i x lt is)
-    ∙ get_or-bytes_of_extents-push (take i xs) k (IsExtent-at s xs i x are lt is)
+get_or-bytes_of_extents-more s xs i k x are lt is = grind (arith, common_steps, more, get_or-bytes_of_extents-push, IsExtent-at)
 
 pub ruleset extents_more = (IsExtent-at, length-bytes_of_extents-more, get_or-bytes_of_extents-more)

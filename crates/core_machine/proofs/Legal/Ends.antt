@@ -1,5 +1,6 @@
 -- The end of a run: where no client is ready and memory didn't run out, each operation has an
 -- answer, and the report is legal.
+use Rattle.fs_types.proofs.Common.{common_steps}
 use Rattle.fs_types.proofs.Common.{◌≡◌, ℕ, zero, suc, ◌+◌, ◌≤◌, ◌<◌, true, false, List, [], length, map, Some, None, IsSome, is_some}
 use Rattle.fs_types.proofs.Common.{slice_get, slice_index, Contains, ltb-false, le-ltb, le-leb, true≢false, refl, sym, ap, ◌∙◌, subst, inl}
 use Rattle.fs_types.proofs.Common.{inr, arith, or_left, or_right, cases_Bool, cases_lt, false_from_ne_true, All-map, recursion_from_All}
@@ -30,10 +31,7 @@ place-is s A r place i n upto at fresh earlier =
     ]
 
 no_operation : (s : Job) (n : ℕ) → 2 + length s.lines ≤ n → is_some (op_at s n) ≡ false
-no_operation s n past = false_from_ne_true (is_some (op_at s n)) (λ is.
-    let op = some_of (op_at s n) is in
-    let within = (op_at-within s n op.0 op.1).1 in
-    omega arith)
+no_operation s n past = grind (arith, common_steps, false_from_ne_true, some_of, op_at-within)
 
 module _ {told : List ℕ} {m : Moment} (so_far : IsLegalMoment told m)
     (none : ready m ≡ []) (going : m.spent ≡ false) where
@@ -74,17 +72,11 @@ module _ {told : List ℕ} {m : Moment} (so_far : IsLegalMoment told m)
   answered-below (suc below) n o lt is = answered-next n o is (λ k l before op. answered-below below k l (omega arith) op)
 
   unanswered : (n : ℕ) → is_some (op_at m.job n) ≡ false → printed m n ≡ None
-  unanswered n not_one = none_from-is_some (printed m n) (false_from_ne_true (is_some (printed m n))
-      (λ given. true≢false (sym (so_far.operations n given) ∙ not_one)))
+  unanswered n not_one = grind (arith, common_steps)
 
   -- each operation has an answer, and nothing else
   answers-at_end : (n : ℕ) → is_some (printed m n) ≡ is_some (op_at m.job n)
-  answers-at_end n = elim (cases_Bool (is_some (op_at m.job n))) [
-    | inl is ↦
-        let op = some_of (op_at m.job n) is in
-        answered-below (suc n) n op.0 (omega arith) op.1 ∙ sym is
-    | inr not_one ↦ ap is_some (unanswered n not_one) ∙ sym not_one
-  ]
+  answers-at_end n = grind (arith, common_steps, some_of, answered-below, unanswered)
 
   lines-at_end : map (λ a. a.0) m.answers ≡ op_lines m.job
   lines-at_end =

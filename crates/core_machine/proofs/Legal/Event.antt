@@ -1,5 +1,6 @@
 -- The line that comes next, and when its event keeps its path legal: what the events of all
 -- operations share.
+use Rattle.fs_types.proofs.Common.{common_steps}
 use Rattle.fs_types.proofs.Common.{◌≡◌, ℕ, suc, ◌+◌, ◌≤◌, Bool, true, false, not, cond, List, [], ◌∷◌, ◌++◌, length, Option, Some, None}
 use Rattle.fs_types.proofs.Common.{IfSome, IsTrue, true≢false, add-one, refl, sym, ap, arith, cond_both, OnTrue_from}
 use Rattle.fs_script.specs.Vocabulary.{Answer, Job, op_at, needs_open, commits, version_of, done_at, Answering, is_enabled, IsInReach}
@@ -73,9 +74,7 @@ module _ (k : NextLine) where
   MayPrint-last = MayPrint-from (now k).version front-in_journal (omega arith)
 
   MayPrint-new : MayPrint k true (suc (length k.journal))
-  MayPrint-new =
-      IsInReach-made k.line
-      k.legal k.next k.is k.later front-in_journal
+  MayPrint-new = grind (arith, common_steps, IsInReach-made, front-in_journal)
 
 -- ---- answers, by whether they commit
 
@@ -87,13 +86,7 @@ module _ {k : NextLine} {op : Op} where
   -- it commits nothing
   pub kept : (a : Answer) → AgreesWithOpen op (now k).is_open a → IfSome (version_of a) (MayPrint k false)
       → IsInTable (AreTold k.job k.told) (view_then k false) op a → commit_of op (now k).pending a ≡ None → IsLegalAnswer k op a false
-  kept a opened version answer none = record {
-    opened = opened;
-    version = version;
-    answer = answer;
-    commit = none;
-    enabled = λ h. absurd (true≢false (sym h));
-  }
+  kept a opened version answer none = grind (arith, common_steps)
 
   -- it commits the line, as the version after the last
   pub committed : AgreesWithOpen op (now k).is_open (answers.Done ((now k).version + 1))
@@ -109,8 +102,4 @@ module _ {k : NextLine} {op : Op} where
 -- an operation that needs an open path; where it is open, no other answer is BadF
 pub if_open-legal : (k : NextLine) (op : Op) (e : Event) → IsTrue (needs_open op)
     → (false ≡ not (now k).is_open → IsLegalEvent k op e) → IsLegalEvent k op (if_open (now k) e)
-if_open-legal k op e needs opened =
-    cond_both (now k).is_open _ _ (IsLegalEvent k op)
-    (λ there. opened (sym (ap not there)))
-    (λ closed. kept answers.BadF (OnTrue_from (needs_open op) _ (λ _. sym (ap not closed))) tt needs
-    (not_done op (now k).pending answers.BadF refl))
+if_open-legal k op e needs opened = grind (arith, common_steps)

@@ -1,5 +1,6 @@
 -- The journals with a line at the end of one path's: that path's journal has it, and every other
 -- stays.
+use Rattle.fs_types.proofs.Common.{common_steps}
 use Rattle.fs_types.proofs.Common.{◌≡◌, ◌≢◌, ℕ, false, List, [], ◌∷◌, ◌++◌, map, bytes_eq, Contains, true≢false, refl, sym, ap, ◌∙◌, subst}
 use Rattle.fs_types.proofs.Common.{inl, inr, arith, cases_Bool, Contains-tail, bytes_eq-Decides}
 use Rattle.fs_script.specs.Vocabulary.{journal_of, Pushes}
@@ -40,7 +41,4 @@ journal_of-with_entry_other p q n (j ∷ js) other = elim (cases_Bool (bytes_eq 
 -- so the line comes to the end of its own path's journal
 pub Pushes-with_entry : (p : List ℕ) (n : ℕ) (js : List (List ℕ × List ℕ))
     → Contains (map (λ j. j.0) js) p → Pushes (journal_of js) p n (journal_of (with_entry p n js))
-Pushes-with_entry p n js has = record {
-  here = journal_of-with_entry p n js has;
-  others = λ q other. journal_of-with_entry_other p q n js (other_bytes p q other);
-}
+Pushes-with_entry p n js has = grind (arith, common_steps, journal_of-with_entry, journal_of-with_entry_other, other_bytes)

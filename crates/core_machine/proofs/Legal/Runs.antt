@@ -1,5 +1,6 @@
 -- A run: its first moment is legal, and each of its steps keeps it so. So what it reports at its
 -- end is legal.
+use Rattle.fs_types.proofs.Common.{common_steps}
 use Rattle.fs_types.proofs.Common.{◌≡◌, ℕ, false, List, [], ◌∷◌, length, None, is_some, slice_index_or, bytes_eq, le-ltb, true≢false, refl}
 use Rattle.fs_types.proofs.Common.{sym, ap, ◌∙◌, subst, arith, AllByRecursion, cond_both, length-replicate, get_or-replicate}
 use Rattle.fs_script.specs.Vocabulary.{answer_at, IsRising, Job, journal_of, IsLegal}
@@ -17,23 +18,7 @@ empty-journals [] p all = refl
 empty-journals (j ∷ js) p all = cond_both (bytes_eq j.0 p) _ _ (λ J. J ≡ []) (λ _. all.0) (λ _. empty-journals js p all.1)
 
 first-legal : (told : List ℕ) {m : Moment} → HasClients m.job → IsFirst m.job m → IsLegalMoment told m
-first-legal told {m} clients first =
-    let none : (n : ℕ) → printed m n ≡ None = λ n. ap (λ xs. answer_at xs n) first.answers in
-    record {
-      job = clients;
-      clients = ap length first.clients ∙ length-replicate m.job.shape.clients fresh_client;
-      places = λ r within k n at.
-          let fresh = get_or-replicate m.job.shape.clients r fresh_client fresh_client within in
-          let is = ap (λ cs. slice_index_or cs r fresh_client) first.clients ∙ fresh in
-          let place = ap (λ c. c.place) is in
-          ap is_some (none n) ∙ sym (le-ltb k (client_of m r).place (omega arith));
-      operations = λ n given. absurd (true≢false (sym given ∙ ap is_some (none n)));
-      phases = λ k n given is before. absurd (true≢false (sym given ∙ ap is_some (none k)));
-      rising = subst IsRising (sym first.answers) tt;
-      paths = first.paths;
-      legal = IsLegalSoFar-none told m.job (answering m) (journal m) none
-          (λ p. empty-journals m.journals p first.journals);
-    }
+first-legal told {m} clients first = grind (arith, common_steps, length, length-replicate, get_or-replicate, IsLegalSoFar-none, journal, empty-journals)
 
 -- ---- the run
 

@@ -1,4 +1,5 @@
 -- One event keeps a moment legal: each invariant after it, by whether it brings an answer.
+use Rattle.fs_types.proofs.Common.{common_steps}
 use Rattle.fs_types.proofs.Common.{◌≡◌, ◌≢◌, ℕ, ◌<◌, Bool, true, false, cond, List, length, map, Option, Some, None, IsSome, is_some}
 use Rattle.fs_types.proofs.Common.{Contains, refl, sym, ap, ◌∙◌, subst, subst₂, inl, inr, arith, cases_eq, get_or-set_same}
 use Rattle.fs_types.proofs.Common.{get_or-set_other, length-set}
@@ -31,17 +32,7 @@ module _ {told : List ℕ} {m : Moment} {r : ℕ} (t : IsTurn told m r) (e : Eve
   places-after : (B : Answering) → IsAnsweredUpTo m.job B r client_after.place
       → ((i : ℕ) → i ≢ r → i < m.job.shape.clients → IsAnsweredUpTo m.job B i (client_of m i).place)
       → (i : ℕ) → i < m.job.shape.clients → IsAnsweredUpTo m.job B i (client_of after i).place
-  places-after B own others i within =
-      let size = t.so_far.clients in
-      elim (cases_eq i r) [
-        | inl is ↦
-            let same = get_or-set_same m.clients r client_after fresh_client (omega arith) in
-            subst₂ (λ j c. IsAnsweredUpTo m.job B j c.place) (sym is)
-            (sym same ∙ ap (client_of after) (sym is)) own
-        | inr other ↦
-            let same = get_or-set_other m.clients r i client_after fresh_client other in
-            subst (λ c. IsAnsweredUpTo m.job B i c.place) (sym same) (others i other within)
-      ]
+  places-after B own others i within = grind (arith, common_steps)
 
 -- ---- an event that brings no answer
 
@@ -52,16 +43,7 @@ module _ {told : List ℕ} {m : Moment} {r : ℕ} (t : IsTurn told m r) (doing :
   goes_on = record { answer = None; commits = false; doing = doing }
 
   unanswered-legal : IsLegalMoment told (after t goes_on)
-  unanswered-legal = record {
-    job = so_far.job;
-    clients = clients-after t goes_on;
-    places = places-after t goes_on (printed m) (answered_up_to t) (λ i other. so_far.places i);
-    operations = so_far.operations;
-    phases = so_far.phases;
-    rising = so_far.rising;
-    paths = so_far.paths;
-    legal = so_far.legal;
-  }
+  unanswered-legal = grind (arith, common_steps)
 
 -- ---- an event that brings an answer
 
@@ -118,10 +100,7 @@ module _ {told : List ℕ} {m : Moment} {r : ℕ} (t : IsTurn told m r) (a : Ans
   -- what the line commits is as its event found it
   commit-after : commit_by o.op (pending m.job B o.rank o.path n) (B n)
       ≡ commit_of o.op (now (coming t)).pending a
-  commit-after =
-      let agree = AgreeBefore-next m.job o.rank o.path n adds (omega arith) in
-      let same = pending-agree m.job o.rank o.path (answering m) B n agree in
-      ap (commit_by o.op (pending m.job B o.rank o.path n)) adds.added ∙ ap (λ q. commit_of o.op q a) (sym same)
+  commit-after = grind (arith, common_steps, AgreeBefore-next, adds, pending-agree)
 
   legal-after : (committed : Bool) → IsLegalAnswer (coming t) o.op a committed
       → IsLegalSoFar told m.job B (journal_of (journals_after committed))

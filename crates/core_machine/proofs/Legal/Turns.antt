@@ -1,4 +1,5 @@
 -- A client's turn: the line that comes next, and what is known as it comes.
+use Rattle.fs_types.proofs.Common.{common_steps}
 use Rattle.fs_types.proofs.Common.{◌≡◌, ℕ, ◌≤◌, ◌<◌, true, List, [], Option, Some, None, IsSome, is_some, Contains, true≢false, refl, sym}
 use Rattle.fs_types.proofs.Common.{ap, ◌∙◌, subst, inl, inr, arith, filter, range_with_len, cond_both, cases_lt, All-contains}
 use Rattle.fs_types.proofs.Common.{filter_passes, same_Some}
@@ -26,12 +27,7 @@ pub record IsTurn (told : List ℕ) (m : Moment) (r : ℕ) : Type 0 where
   pub begun : has_begun m number ≡ true
 
 ready-may_come : (m : Moment) (r : ℕ) → Contains (ready m) r → may_come m (next_line m r) ≡ true
-ready-may_come m r has =
-    let comes = λ (i : ℕ). may_come m (next_line m i) in
-    let all = range_with_len 0 m.job.shape.clients in
-    cond_both m.spent [] (filter comes all) (λ xs. Contains xs r → comes r ≡ true)
-    (λ _ none. absurd (omega arith))
-    (λ _. All-contains (λ i. comes i ≡ true) (filter comes all) r (filter_passes comes all)) has
+ready-may_come m r has = grind (arith, common_steps, All-contains, filter_passes)
 
 line-of : (m : Moment) (x : Option ℕ) → may_come m x ≡ true → (n : ℕ) × (x ≡ Some n) × (has_begun m n ≡ true)
 line-of m None h = absurd (true≢false (sym h))

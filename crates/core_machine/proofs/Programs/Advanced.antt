@@ -1,4 +1,5 @@
 -- The places after a client's next line was answered: the lines that come next, and who goes.
+use Rattle.fs_types.proofs.Common.{common_steps}
 use Rattle.fs_types.proofs.Common.{◌≡◌, ℕ, ◌+◌, ◌<◌, ◌≤◌, Bool, true, false, List, [], ◌∷◌, cond, not, length, filter, Some, slice_get}
 use Rattle.fs_types.proofs.Common.{slice_index, refl, sym, ap, ◌∙◌, inl, inr, arith, ◌==◌, ◌&&◌, range_with_len, and_right, cases_eq}
 use Rattle.fs_types.proofs.Common.{eq-eqb, ne_eqb, get_or-set_same, get_or-set_other, filter_agree}
@@ -32,15 +33,7 @@ filter-filter p q both is (x ∷ xs) =
 module _ (v : Places) (r n : ℕ) (within : r < length v.places) (goes : Goes v r n) where
   -- no next line is of an earlier phase
   pub none_earlier-advanced : IsInPhase v → (q m : ℕ) → next_in (after_line v r) q ≡ Some m → v.phase ≤ phase v.job m
-  none_earlier-advanced in_phase q m next = elim (cases_eq q r) [
-    | inl is ↦
-        let place = slice_index v.places r in
-        let own = sym (next_in-own v r within) ∙ ap (next_in (after_line v r)) (sym is) ∙ next in
-        let later = passing-rise (λ i. is_of_rank r (op_at v.job i)) 2 (length v.job.lines) place (place + 1) n m (omega arith) goes.next
-        own in
-        omega (arith, phase-rises v.job n m (omega arith), goes.of_phase)
-    | inr other ↦ in_phase.none_earlier q m (sym (next_in-other v r q other) ∙ next)
-  ]
+  none_earlier-advanced in_phase q m next = grind (arith, common_steps, next_in-own, passing-rise, length, phase-rises, next_in-other)
 
   -- where its next line is of the same phase, the same clients go
   pub going-stays : goes_in (after_line v r) r ≡ true → going (after_line v r) ≡ going v

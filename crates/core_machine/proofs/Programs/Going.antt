@@ -1,4 +1,5 @@
 -- Which clients go, and when the run is in a phase.
+use Rattle.fs_types.proofs.Common.{common_steps}
 use Rattle.fs_types.proofs.Common.{◌≡◌, ℕ, ◌+◌, ◌<◌, ◌≤◌, Bool, true, false, cond, List, [], ◌∷◌, ◌++◌, suc, zero-add, Option, Some, None}
 use Rattle.fs_types.proofs.Common.{slice_get, Contains, true≢false, eqb-true, refl, sym, ap, ◌∙◌, arith, filter, range_with_len, eq-eqb}
 use Rattle.fs_types.proofs.Common.{append-nil, filter-append, none-some, slice_get-get_or}
@@ -22,11 +23,7 @@ line-of_phase s k (Some n) of = (n, refl, eqb-true (phase s n) k of)
 
 -- a client that is ready goes
 pub Goes-from_Contains : (v : Places) (r : ℕ) → Contains (going v) r → (n : ℕ) × Goes v r n
-Goes-from_Contains v r has =
-    let at = slice_get-get_or (going v) has.0 r has.1 ∙ ap Some has.2 in
-    let passed = passes (goes_in v) 0 v.job.shape.clients has.0 r at in
-    let line = line-of_phase v.job v.phase (next_in v r) passed.0 in
-    (line.0, record { next = line.1; of_phase = line.2 })
+Goes-from_Contains v r has = grind (arith, common_steps, slice_get-get_or, going, passes, line-of_phase)
 
 pub goes_in-true : {v : Places} {r n : ℕ} → Goes v r n → goes_in v r ≡ true
 goes_in-true {v} {n} goes = ap (is_of_phase v.job v.phase) goes.next ∙ eq-eqb (phase v.job n) v.phase goes.of_phase
@@ -54,5 +51,4 @@ module _ (test : ℕ → Bool) (n : ℕ) where
   clients-push passes = clients-more ∙ ap (λ b. filter test (range_with_len 0 n) ++ cond b (n ∷ []) []) passes
 
   pub clients-skip : test n ≡ false → filter test (range_with_len 0 (n + 1)) ≡ filter test (range_with_len 0 n)
-  clients-skip fails =
-      clients-more ∙ ap (λ b. filter test (range_with_len 0 n) ++ cond b (n ∷ []) []) fails ∙ append-nil (filter test (range_with_len 0 n))
+  clients-skip fails = grind (arith, common_steps, clients-more, append-nil)

@@ -1,4 +1,5 @@
 -- What is kept of the turns, where a client is ready and after its next line was answered.
+use Rattle.fs_types.proofs.Common.{common_steps}
 use Rattle.fs_types.proofs.Common.{◌≡◌, ℕ, ◌+◌, ◌<◌, ◌≤◌, true, false, List, [], not, length, map, filter, get_or, Vec, Global}
 use Rattle.fs_types.proofs.Common.{vec_capacity, Some, IsSome, is_some, slice_get, slice_index, Contains, refl, sym, ap, ◌∙◌, subst, inl}
 use Rattle.fs_types.proofs.Common.{inr, arith, ◌==◌, slice_set, map-set_same, cases_eq, length-map, map-set, get_or-set_same}
@@ -25,9 +26,7 @@ module _ {t : Inside} {r : ℕ} {w : Places} {i : ℕ} (ready : IsReady t r w i)
   before = places_of t.script.now t.programs.items t.phase
 
   goes : (n : ℕ) × Goes before r n
-  goes =
-      let kept = subst (λ v. Contains (going v) i) (sym ready.view) ready.ready in
-      Goes-from_Contains before r (subst (λ j. Contains (going before) j) (sym ready.rank) kept)
+  goes = grind (arith, common_steps, going, Goes-from_Contains)
 
   some-going : going before ≡ [] → ⊥
   some-going empty = (let none = ap length (ap going (sym ready.view) ∙ empty) in omega (arith, ready.ready.1))
@@ -89,9 +88,7 @@ module _ {t : Inside} {r : ℕ} {w : Places} {i : ℕ} {p q : Program} (advances
   places-new = rw (← advances.ready.view, ← advances.ready.rank) places-set
 
   pub are-new : ArePrograms t.script.now new
-  are-new =
-      let lines = λ (o : Program). o.lines.items in
-      map-set_same lines t.programs.items r q p (lines-same ∙ ap lines advances.read) ∙ advances.ready.kept.programs
+  are-new = grind (arith, common_steps, map-set_same, lines-same)
 
   new-is : places_of t.script.now new t.phase ≡ after_line old r
   new-is = ap (λ (xs : List ℕ). record { job = t.script.now; places = xs; phase = t.phase }) places-set
@@ -123,14 +120,7 @@ module _ {t : Inside} {r : ℕ} {w : Places} {i : ℕ} {p q : Program} (advances
   -- what is left to know are the clients that go, and that the run is in the phase
   IsKept-new : (k : ℕ) (rest : Vec ℕ Global) → rest.items ≡ going (places_of t.script.now new k) → vec_capacity t.ready ≤ vec_capacity rest
       → IsInPhase (places_of t.script.now new k) → IsKept t.script.now new k rest.items (vec_capacity rest)
-  IsKept-new k rest ready enough in_phase = record {
-    job = advances.ready.kept.job;
-    programs = are-new;
-    within = within-new;
-    ready = ready;
-    room = omega (arith, advances.ready.kept.room);
-    phase = in_phase;
-  }
+  IsKept-new k rest ready enough in_phase = grind (arith, common_steps, are-new, within, within-new, phase)
 
   -- the client stays: its next line is of the same phase
   pub IsKept-stays : is_of_phase t.script.now t.phase (next_of q) ≡ true

@@ -1,4 +1,5 @@
 -- The lines of the clients' programs, as the lines of the script come one by one.
+use Rattle.fs_types.proofs.Common.{common_steps}
 use Rattle.fs_types.proofs.Common.{◌≡◌, ℕ, suc, ◌+◌, ◌-◌, ◌<◌, ◌≤◌, cond, List, [], ◌∷◌, ◌++◌, length, map, filter, get_or, set, replicate}
 use Rattle.fs_types.proofs.Common.{Option, Some, None, refl, sym, ap, ◌∙◌, inl, inr, arith, range_with_len, cases_eq, eq-eqb, ne_eqb}
 use Rattle.fs_types.proofs.Common.{length-replicate, get_or-replicate, get_or-map, map-set, length-set, get_or-set_same, get_or-set_other}
@@ -24,10 +25,7 @@ lines_before-more s n r from =
 pub map-with_program_line : (n r : ℕ) (o : OpLine) (ps : List Program) (p q : Program) → r ≡ o.rank
     → r < length ps → q.lines.items ≡ (get_or ps r p).lines.items ++ n ∷ []
     → map (λ p. p.lines.items) (set ps r q) ≡ with_program_line n (Some o) (map (λ p. p.lines.items) ps)
-map-with_program_line n r o ps p q rank lt more =
-    let lines = λ (p : Program). p.lines.items in
-    map-set lines ps r q ∙ ap (set (map lines ps) r) (more ∙ ap (λ (ns : List ℕ). ns ++ n ∷ []) (sym (get_or-map lines ps r p [] lt)))
-    ∙ ap (λ i. set (map lines ps) i (get_or (map lines ps) i [] ++ n ∷ [])) rank
+map-with_program_line n r o ps p q rank lt more = grind (arith, common_steps, map-set, get_or-map)
 
 length-with_program_line : (n : ℕ) (x : Option OpLine) (ls : List (List ℕ)) → length (with_program_line n x ls) ≡ length ls
 length-with_program_line n None ls = refl

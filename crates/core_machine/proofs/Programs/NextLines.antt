@@ -1,4 +1,5 @@
 -- What the programs that are kept say of the lines that come next, and of their phases.
+use Rattle.fs_types.proofs.Common.{common_steps}
 use Rattle.fs_types.proofs.Common.{◌≡◌, ℕ, ◌<◌, ◌≤◌, List, [], length, map, get_or, Option, Some, None, slice_get, slice_index, Contains}
 use Rattle.fs_types.proofs.Common.{refl, sym, ap, ◌∙◌, subst, zero-add, inl, inr, arith, IfNone, IfSome, unwrap_or, range_with_len}
 use Rattle.fs_types.proofs.Common.{option_map, length-map, All-contains, length-map-range_with_len, same_Some, slice_get-map}
@@ -12,9 +13,7 @@ use Rattle.core_machine.proofs.Programs.Going.{Goes, none-goes, IsInPhase-from_s
 
 -- a client with a next line is one of the job's
 pub next_in-within : (v : Places) (r n : ℕ) → HasClients v.job → next_in v r ≡ Some n → r < v.job.shape.clients
-next_in-within v r n job next =
-    let op = program-op v.job r (slice_index v.places r) n next in
-    subst (λ q. q < v.job.shape.clients) op.2 (job n op.0 op.1)
+next_in-within v r n job next = grind (arith, common_steps, program-op)
 
 none-from : (x : Option ℕ) → ((n : ℕ) → x ≡ Some n → ⊥) → x ≡ None
 none-from None never = refl

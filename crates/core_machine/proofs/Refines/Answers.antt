@@ -1,4 +1,5 @@
 -- What an answer to the line that comes next changes of what its client knows, as seen from the script's end.
+use Rattle.fs_types.proofs.Common.{common_steps}
 use Rattle.fs_types.proofs.Common.{◌≡◌, ℕ, zero, suc, ◌≤◌, List, Option, Some, None, IsSome, is_some, true≢false, refl, sym, ap, ◌∙◌, inl}
 use Rattle.fs_types.proofs.Common.{inr, arith, cases_lt, AllByRecursion}
 use Rattle.fs_script.specs.Vocabulary.{Answer, Job, own_at, rank_at, bytes_of, Answering, one_more, over_answers, state, AddsAnswer}
@@ -11,8 +12,7 @@ use Rattle.fs_script.proofs.CallerLemmas.{state_in-agree, pending_at-answered, s
 -- where the line isn't the client's on the path, its answer changes nothing there
 pub AgreeBefore-elsewhere : (s : Job) (r : ℕ) (p : List ℕ) (A B : Answering) (n : ℕ) (a : Answer) (m : ℕ) → AddsAnswer A n a B
     → own_at s r p n ≡ None → AgreeBefore s r p A B m
-AgreeBefore-elsewhere s r p A B n a m adds none k below own =
-    sym (adds.others k (λ is. true≢false (sym own ∙ ap is_some (ap (own_at s r p) is ∙ none))))
+AgreeBefore-elsewhere s r p A B n a m adds none k below own = grind (arith, common_steps)
 
 -- ---- the line's own client and path
 
@@ -38,10 +38,7 @@ over_answers-until step x s r p A n (suc m) le from =
 -- a line that comes next is open with all later ones of its client
 pub IsOpenFrom-next : (s : Job) (r : ℕ) (p : List ℕ) (A : Answering) (n : ℕ) → ComesNext s A n → rank_at s n ≡ Some r
     → ((k : ℕ) → IsSome (own_at s r p k) → rank_at s k ≡ Some r) → IsOpenFrom s r p A n
-IsOpenFrom-next s r p A n next mine ranks k from own = by (A k) refl where
-  by : (x : Option Answer) → A k ≡ x → A k ≡ None
-  by None e = e
-  by (Some b) e = (let before = next.last k b e (ranks k own ∙ sym mine) in absurd (omega arith))
+IsOpenFrom-next s r p A n next mine ranks k from own = grind (arith, common_steps)
 
 -- and after its answer the later ones are
 pub IsOpenFrom-answered : (s : Job) (r : ℕ) (p : List ℕ) (A B : Answering) (n : ℕ) (a : Answer) → AddsAnswer A n a B → IsOpenFrom s r p A n

@@ -1,4 +1,5 @@
 -- What is kept before the first event, and that the moment it stands for is the first.
+use Rattle.fs_types.proofs.Common.{common_steps}
 use Rattle.fs_types.proofs.Common.{◌≡◌, ℕ, zero, suc, ◌+◌, false, List, [], ◌∷◌, length, map, is_some, slice_index, All, true≢false, refl}
 use Rattle.fs_types.proofs.Common.{sym, ap, subst, ◌∙◌, arith, zip, replicate, AllByRecursion, le-ltb, length-map, length-replicate}
 use Rattle.fs_types.proofs.Common.{get_or-replicate, recursion_from_All, firsts-zip, slice_get_within, get_or_from_slice_get}
@@ -12,13 +13,7 @@ abbrev none : Answering
 none = answer_at []
 
 owner-fresh : (s : Job) (now : ℕ) {x : OwnedPath} → IsFreshOwner x → StandsForOwner s none now x
-owner-fresh s now fresh = record {
-  answered = rw fresh.journal tt;
-  written = rw fresh.file tt;
-  file = rw (fresh.journal, fresh.file) refl;
-  board = rw (fresh.journal, fresh.board) refl;
-  known = rw (fresh.journal, fresh.board) refl;
-}
+owner-fresh s now fresh = grind (arith, common_steps)
 
 client-fresh : (s : Job) (r : ℕ) (p : List ℕ) {x : OwnedPath} {k : ClientPath} → IsFreshOwner x → IsFreshClient k
     → StandsForClient s none r p x k

@@ -1,4 +1,5 @@
 -- The journals that are kept, as one path's state is changed.
+use Rattle.fs_types.proofs.Common.{common_steps}
 use Rattle.fs_types.proofs.Common.{firsts-zip, length-map, ◌≡◌, ℕ, zero, suc, ◌<◌, Bool, true, false, cond, List, [], ◌∷◌, ◌++◌, length}
 use Rattle.fs_types.proofs.Common.{set, map, Some, refl, sym, ap, subst, ◌∙◌, arith, zip, slice_get, AllByRecursion, bytes_eq, nat_cmp}
 use Rattle.fs_types.proofs.Common.{is_lt, slice_cmp, option_map, map-set, set-get_or, same_Some, slice_get-map, get_or_from_slice_get}
@@ -58,9 +59,7 @@ pub journals_of-set : (paths : List (List ℕ)) (states : List PathState) (p : L
     → AreRising paths → slice_get paths i ≡ Some p → slice_get states i ≡ Some x
     → journal_kept y ≡ grown (journal_kept x) n commits → journals_of paths (set states i y)
     ≡ cond commits (with_entry p n (journals_of paths states)) (journals_of paths states)
-journals_of-set paths states p n i x y true rising at is grows =
-    ap (zip paths) (map-set journal_kept states i y) ∙ ap (λ (j : List ℕ). zip paths (set (map journal_kept states) i j)) grows
-    ∙ sym (with_entry-zip p n paths (map journal_kept states) i (journal_kept x) rising at (slice_get-map_some journal_kept states i x is))
+journals_of-set paths states p n i x y true rising at is grows = grind (arith, common_steps, map-set, with_entry-zip, slice_get-map_some)
 journals_of-set paths states p n i x y false rising at is grows =
     ap (zip paths) (map-set journal_kept states i y) ∙ ap (λ (j : List ℕ). zip paths (set (map journal_kept states) i j)) grows
     ∙ ap (zip paths) (ap (set (map journal_kept states) i)

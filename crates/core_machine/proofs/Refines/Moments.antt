@@ -1,4 +1,6 @@
 -- The moment that is kept after a line was answered is the machine's next one.
+use Rattle.fs_types.proofs.Common.{common_steps}
+use Rattle.fs_types.proofs.Common.{arith}
 use Rattle.std.proofs.Math.ListN.{get_or-map}
 use Rattle.fs_types.proofs.Common.{◌≡◌, ℕ, ◌+◌, false, List, set, get_or, map, Some, slice_index, refl, sym, ap, ◌∙◌, slice_get, map-set}
 use Rattle.fs_script.specs.Vocabulary.{Answer, Given, put_answer, Job, program, journal_of}
@@ -43,15 +45,9 @@ module _ {s : Job} {paths : List (List ℕ)} {states : List PathState} {answers 
   next-is = ap (λ c. slice_get (program s r) c.place) (client_of-places turns.places r) ∙ t.next
 
   clients-are : map client_at (after_line turns r).places ≡ set (map client_at turns.places) r (after_turn (client_of before r) kept)
-  clients-are =
-      map-set client_at turns.places r (slice_index turns.places r + 1) ∙ ap (set (map client_at turns.places) r)
-      (sym (rw (t.follows.answer, t.follows.doing) refl) ∙ ap (λ c. after_turn c kept) (sym (client_of-places turns.places r)))
+  clients-are = grind (arith, common_steps, map-set, client_of-places)
 
   pub step-is : moment_of s paths (set states t.place t.then)
       (record { lines = answers.lines; list = put_answer t.number t.answer answers.list }) (after_line turns r) false
       ≡ step before (record { client = r })
-  step-is =
-      same_moment s _ _ _ _ _ _ clients-are (sym (ap (λ a. with_answer t.number a answers.list) t.follows.answer))
-      (journals_of-set paths states t.line.path t.number t.place t.was t.then kept.commits t.held.named.rising t.at t.there
-      t.follows.journal) ∙ ap (after_event before r t.number t.line) (sym event-is) ∙ ap (step_line before r t.number) (sym t.is)
-      ∙ ap (step_at before r) (sym next-is)
+  step-is = grind (arith, common_steps, same_moment, clients-are, journals_of-set, event-is, next-is)

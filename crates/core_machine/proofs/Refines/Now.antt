@@ -1,4 +1,5 @@
 -- What the event of a line sees is what is kept for its path and its client.
+use Rattle.fs_types.proofs.Common.{common_steps}
 use Rattle.fs_types.proofs.Common.{◌≡◌, ℕ, max, leb, refl, sym, ap, ◌∙◌, arith, nat_lt, count_by, cond_both, leb-true, nat_tests}
 use Rattle.fs_script.specs.Vocabulary.{Job, phase, Answering, state, seen, front, of_earlier_phases}
 use Rattle.core_machine.specs.Vocabulary.{OpLine, Noted, OwnedPath, ClientPath, PathNow, known_of, kept_now, known_from, later_of}
@@ -7,8 +8,7 @@ use Rattle.core_machine.proofs.Refines.Answers.{over_answers-until}
 use Rattle.core_machine.proofs.Refines.Clients.{IsOwn}
 
 later-version : (a b : Noted) → (later_of a b).version ≡ max a.version b.version
-later-version a b = cond_both (leb b.version a.version) a b (λ x. x.version ≡ max a.version b.version)
-    (λ le. let lt = leb-true b.version a.version le in omega arith) (λ more. grind (arith, nat_tests))
+later-version a b = grind (arith, common_steps)
 
 -- the front of the line is the greater of what its client noted and the board
 front-kept : {s : Job} {A : Answering} {now n : ℕ} {o : OpLine} {x : OwnedPath} {k : ClientPath} → phase s n ≡ now

@@ -1,4 +1,5 @@
 -- The owner's part of a path after an event: of another path, and of the line's own.
+use Rattle.fs_types.proofs.Common.{common_steps}
 use Rattle.fs_types.proofs.Common.{◌≡◌, ℕ, ◌+◌, ◌≤◌, Bool, true, false, cond, List, [], ◌∷◌, ◌++◌, length, Option, Some, IsSome, is_some}
 use Rattle.fs_types.proofs.Common.{nat_lt, count_by, refl, sym, ap, ◌∙◌, subst, inl, inr, arith, le-ltb, AllByRecursion, cases_eq}
 use Rattle.fs_types.proofs.Common.{length_push, sum_by_push, count_by-le-length}
@@ -19,15 +20,11 @@ pub record IsNewAnswer (s : Job) (A : Answering) (now n : ℕ) (o : OpLine) (a :
 -- ---- lines that were answered
 
 pub still-answered : {A B : Answering} {n : ℕ} (m : ℕ) {a : Answer} → AddsAnswer A n a B → IsSome (A m) → IsSome (B m)
-still-answered {B} {n} m adds given = elim (cases_eq m n) [
-  | inl is ↦ ap (λ i. is_some (B i)) is ∙ ap is_some adds.added
-  | inr other ↦ ap is_some (adds.others m other) ∙ given
-]
+still-answered {B} {n} m adds given = grind (arith, common_steps)
 
 all-answered : {A B : Answering} {n : ℕ} {a : Answer} (J : List ℕ) → AddsAnswer A n a B → AllByRecursion (λ m. IsSome (A m)) J
     → AllByRecursion (λ m. IsSome (B m)) J
-all-answered {A} {B} {n} {a} J adds = AllByRecursion-weaker (λ m. IsSome (A m)) (λ m. IsSome (B m)) J
-    (λ m given. still-answered m adds given)
+all-answered {A} {B} {n} {a} J adds = grind (arith, common_steps, AllByRecursion-weaker, still-answered)
 
 -- ---- a version that was there
 

@@ -1,4 +1,5 @@
 -- What is read of a path in what the core keeps: its journal and its file at the moment.
+use Rattle.fs_types.proofs.Common.{common_steps}
 use Rattle.fs_types.proofs.Common.{refl, slice_get_read, ◌≡◌, ℕ, List, [], length, map, get_or, Some, None, false, sym, ap, ◌∙◌, arith}
 use Rattle.fs_types.proofs.Common.{slice_get, Contains, slice_get_within}
 use Rattle.fs_script.specs.Vocabulary.{Given, answer_at, Job, state, AreRising, journal_of}
@@ -39,7 +40,6 @@ file-read {s} {paths} {states} {answers} {turns} i p x held at read =
 -- a path that isn't among them has no file
 pub file-absent : (s : Job) (paths : List (List ℕ)) (states : List PathState) (answers : Given) (turns : Places) (p : List ℕ)
     → (Contains paths p → ⊥) → None ≡ file_now (moment_of s paths states answers turns false) p
-file-absent s paths states answers turns p absent = ap (λ (j : List ℕ). state s (answer_at answers.list) j (length j))
-    (journal-absent paths states p absent)
+file-absent s paths states answers turns p absent = grind (arith, common_steps, length, journal-absent)
 
 pub ruleset kept_reads = (journal-read, journal-absent, file-absent)

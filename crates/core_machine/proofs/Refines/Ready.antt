@@ -1,4 +1,5 @@
 -- The clients that may go by what the core keeps are those that are ready at the moment that it stands for.
+use Rattle.fs_types.proofs.Common.{common_steps}
 use Rattle.fs_types.proofs.Common.{◌≡◌, ℕ, zero, suc, ◌+◌, ◌≤◌, ◌<◌, Bool, true, false, cond, List, [], ◌∷◌, length, Option, Some, None}
 use Rattle.fs_types.proofs.Common.{is_some, slice_index, true≢false, refl, sym, ap, ◌∙◌, subst, inl, inr, arith, eq-eqb, filter, slice_get}
 use Rattle.fs_types.proofs.Common.{range_with_len, cases_Bool, cases_lt, false_from_ne_true, ltb-false, le-leb, or_left, or_right, ne_eqb}
@@ -99,8 +100,7 @@ module _ {s : Job} {paths : List (List ℕ)} {states : List PathState} {answers 
   ]
 
   pub ready-is : ready m ≡ going turns
-  ready-is = filter-range (λ r. may_come m (next_line m r)) (λ r. is_of_phase s now (next_in turns r)) 0 s.shape.clients
-      (λ r from to. ap (may_come m) (next-is r) ∙ comes-is r (next_in turns r) (omega arith) refl)
+  ready-is = grind (arith, common_steps, filter-range, next-is, comes-is)
 
 pub ready-kept : {s : Job} {paths : List (List ℕ)} {states : List PathState} {answers : Given} {turns : Places}
     → Holds s paths states answers turns → IsInPhase turns → ready (moment_of s paths states answers turns false) ≡ going turns

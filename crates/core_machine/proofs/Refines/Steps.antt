@@ -1,4 +1,5 @@
 -- One event of the machine is one line answered by what the core keeps.
+use Rattle.fs_types.proofs.Common.{common_steps}
 use Rattle.fs_types.proofs.Common.{cond-false, false_from_ne_true, and_parts, eqb-true, ◌≡◌, ◌≢◌, ℕ, ◌+◌, ◌<◌, ◌≤◌, false, List, length}
 use Rattle.fs_types.proofs.Common.{set, slice_index, Some, None, IsSome, is_some, refl, sym, ap, subst, ◌∙◌, arith, inl, inr, nat_eq}
 use Rattle.fs_types.proofs.Common.{eq-eqb, ◌&&◌, slice_get, bytes_eq, cases_eq, length-set, get_or-set_same, get_or-set_other, same_Some}
@@ -19,9 +20,7 @@ use Rattle.core_machine.proofs.Refines.Journals.{slice_get-set_same, slice_get-s
 
 -- it is no line of another client, nor of another path
 own_op-other : (o : OpLine) (r : ℕ) (p : List ℕ) → (o.rank ≡ r → o.path ≡ p → ⊥) → own_op r p (Some o) ≡ None
-own_op-other o r p other = cond-false (nat_eq o.rank r && bytes_eq o.path p) (Some o.op) None (false_from_ne_true _ (λ both.
-    let parts = and_parts (nat_eq o.rank r) (bytes_eq o.path p) both in
-    other (eqb-true o.rank r parts.0) ((bytes_eq-Decides o.path p).0 parts.1)))
+own_op-other o r p other = grind (arith, common_steps, cond-false, false_from_ne_true, and_parts, eqb-true, bytes_eq-Decides)
 
 -- ---- the line that was answered, and what is kept after it
 
@@ -61,9 +60,7 @@ module _ {s : Job} {paths : List (List ℕ)} {states : List PathState} {answers 
   stands_next = record { upto = t.held.upto r t.within; here = t.next }
 
   pub rank-is : t.line.rank ≡ r
-  rank-is =
-      let op = program-op s r (slice_index turns.places r) t.number t.next in
-      ap (λ l. l.rank) (same_Some t.line op.0 (sym t.is ∙ op.1)) ∙ op.2
+  rank-is = grind (arith, common_steps, program-op)
 
   is_answer : IsNewAnswer s given turns.phase t.number t.line t.answer given_then
   is_answer = record { line = t.is; adds = AddsAnswer-put answers.list t.number t.answer; next = comes_next stands_next; phase = t.now }

@@ -1,4 +1,6 @@
 -- A sync that commits what is pending: the machine's event, and the file with the pending extents after its own.
+use Rattle.fs_types.proofs.Common.{common_steps}
+use Rattle.fs_types.proofs.Common.{arith}
 use Rattle.fs_types.proofs.Common.{◌≡◌, ℕ, ◌+◌, true, false, List, [], ◌++◌, length, Some, Vec, refl, ap, ◌∙◌, map-append}
 use Rattle.fs_script.specs.Vocabulary.{Job, bytes_of, has_any, effect_of, put_lines}
 use Rattle.core_machine.specs.Vocabulary.{Extent, OwnedPath, ClientPath, lines_of_extents, bytes_of_extents, committed_as, file_of}
@@ -12,8 +14,4 @@ sync-event s x k xs opened file any = rw (opened, file, any) refl
 
 pub sync-file : {A B : Type 0} (s : Job) (xs : Vec Extent A) (ys : Vec Extent B) (ps : List Extent) → ys.items ≡ xs.items ++ ps
     → file_of s (Some ys) ≡ effect_of s (bytes_of s) ops.Sync (lines_of_extents ps) (file_of s (Some xs))
-sync-file s xs ys ps is =
-    ap (λ (es : List Extent). Some (record { cells = bytes_of_extents s es; frozen = false })) is
-    ∙ ap (λ (ns : List ℕ). Some (record { cells = put_lines s (bytes_of s) ns []; frozen = false }))
-    (map-append (λ (e : Extent). e.line) xs.items ps) ∙ ap (λ (cells : List ℕ). Some (record { cells = cells; frozen = false }))
-    (put_lines-append s (bytes_of s) (lines_of_extents xs.items) (lines_of_extents ps) [])
+sync-file s xs ys ps is = grind (arith, common_steps, map-append, put_lines-append)

@@ -1,4 +1,6 @@
 -- The event of a write is legal.
+use Rattle.fs_types.proofs.Common.{common_steps}
+use Rattle.fs_types.proofs.Common.{arith}
 use Rattle.fs_types.proofs.Common.{◌≡◌, ℕ, ◌+◌, false, not, length, Some, None, is_some, ltb, ltb-true, ltb-false, refl, ap, ◌∙◌, cond_both}
 use Rattle.fs_script.specs.Vocabulary.{LONGEST_FILE, File, is_open_to_change, is_frozen, Write, data_bytes, state, MayWrite}
 use Rattle.core_machine.specs.Vocabulary.{Op, Data, known_of, write_within, write_at_front, write_event}
@@ -18,10 +20,7 @@ module _ (k : NextLine) (off : ℕ) (text : Data) where
 
   write_within-legal : MayWrite (view_then k false) → false ≡ not (now k).is_open
       → IsLegalEvent k op (write_within k.job.shape.chunk brings)
-  write_within-legal may opened =
-      cond_both (ltb LONGEST_FILE (off + length brings.bytes)) _ _ (IsLegalEvent k op)
-      (λ over. kept answers.TooBig opened tt (may, ltb-true _ _ over) refl)
-      (λ within. kept (answers.Wrote _) opened tt (may, ltb-false _ _ within, refl) refl)
+  write_within-legal may opened = grind (arith, common_steps)
 
   write_at_front-legal : (f : File ℕ) → file_at_front ≡ f → false ≡ not (now k).is_open → IsLegalEvent k op
       (write_at_front k.job.shape.chunk (record (now k) { at_front = known_of f }) brings)

@@ -1,3 +1,4 @@
+use Rattle.fs_types.proofs.Common.{common_steps}
 use Rattle.fs_types.proofs.Common.{◌≡◌, ◌<◌, ◌∙◌, Some, length, map, sym, ap, arith, rules, map-set_same, on_ok_weaker}
 use Rattle.fs_script.specs.Vocabulary.{op_at}
 use Rattle.core_machine.specs.Vocabulary.{Program, with_program_line}
@@ -30,6 +31,4 @@ returns-in-Some-Op-clause-lines c =
     c.push.ensures.lines
 
 pub returns-in-Some-Op-clause-places : goal.returns-in-Some-Op-clause-places
-returns-in-Some-Op-clause-places c =
-    map-set_same (λ (p : Program). p.place) c.args.programs.now c.rank.inside.0 c.push.new.self c.index-programs-rank.result
-    c.push.ensures.place
+returns-in-Some-Op-clause-places c = grind (arith, common_steps, map-set_same)
