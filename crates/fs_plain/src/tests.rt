@@ -1,5 +1,4 @@
 use super::*;
-use crate::sparse_bytes::SparseBytes;
 use fs_script::{Script, read_script};
 use fs_types::{Answer, Answers, Attr, LineNo, Path, Version, Want};
 use std::alloc::Global;
@@ -30,6 +29,30 @@ const TWO_BLOCKS: &[u8] = b"unifyfs 1 servers=1 clients=1 chunk=64 shmem=4 spill
 0 sync /unifyfs/a
 0 create /unifyfs/a
 0 create /unifyfs/b
+";
+
+// Client 1 opens what client 0 made, and after the barrier both go on.
+const TWO_PHASES: &[u8] = b"unifyfs 1 servers=1 clients=2 chunk=64 shmem=4 spill=0
+0 create /unifyfs/a
+0 write /unifyfs/a 0 t:a
+0 sync /unifyfs/a
+1 open /unifyfs/a
+barrier
+1 read /unifyfs/a 0 1
+0 write /unifyfs/a 0 t:b
+0 sync /unifyfs/a
+1 read /unifyfs/a 0 1
+";
+
+// The first byte of a pattern is its seed modulo 256: a seven, a zero over it, and a zero far behind.
+const ZEROS: &[u8] = b"unifyfs 1 servers=1 clients=1 chunk=64 shmem=4 spill=0
+0 create /unifyfs/a
+0 write /unifyfs/a 5000 p:7:1
+0 sync /unifyfs/a
+0 write /unifyfs/a 5000 p:256:1
+0 sync /unifyfs/a
+0 write /unifyfs/a 9000 p:0:1
+0 sync /unifyfs/a
 ";
 
 fn script_of(alloc: Global, text: &[u8]) -> Result<Script, Fail> {
@@ -146,6 +169,22 @@ fn fronts_are_by_path(rt: HostRuntime) -> Result<(), Fail> {
 }
 
 #[test]
+fn fronts_count_the_commits_of_earlier_phases(rt: HostRuntime) -> Result<(), Fail> {
+    let alloc = rt.alloc();
+    let script = script_of(alloc, TWO_PHASES)?;
+    let mut answers = answers_of(alloc, &[2, 4, 9], &[3, 8], &[])?;
+    answer(&mut answers, 5, Answer::Done { v: Version(1) });
+    let mut journals = Journals::new(alloc);
+    let a = Path::read(alloc, b"/unifyfs/a")?;
+    journals.add(a, lines_of(alloc, &[2, 4, 9])?)?;
+    for (n, want) in [(4, 1), (5, 0), (6, 0), (7, 2), (9, 2), (10, 2)] {
+        let front = front_of(&script, &answers, &journals, LineNo(n));
+        assert_eq!(rt; front, Version(want));
+    }
+    Ok(())
+}
+
+#[test]
 fn journals_of_two_paths_are_found(rt: HostRuntime) -> Result<(), Fail> {
     let alloc = rt.alloc();
     let a = Path::read(alloc, b"/unifyfs/a")?;
@@ -214,13 +253,14 @@ fn bytes_are_put_over_two_blocks(rt: HostRuntime) -> Result<(), Fail> {
 #[test]
 fn blocks_of_zeros_are_not_kept(rt: HostRuntime) -> Result<(), Fail> {
     let alloc = rt.alloc();
-    let mut bytes = SparseBytes::new(alloc);
-    assert_eq!(rt; bytes.blocks(), 0);
-    bytes.put(alloc, 5_000, &[0, 7, 0])?;
-    assert_eq!(rt; (bytes.len(), bytes.blocks()), (5_003, 1));
-    bytes.put(alloc, 5_001, &[0])?;
-    assert_eq!(rt; (bytes.len(), bytes.blocks()), (5_003, 0));
-    bytes.put(alloc, 9_000, &[0, 0])?;
-    assert_eq!(rt; (bytes.len(), bytes.blocks()), (9_002, 0));
+    let script = script_of(alloc, ZEROS)?;
+    let answers = answers_of(alloc, &[2, 4, 6, 8], &[3, 5, 7], &[])?;
+    let a = Path::read(alloc, b"/unifyfs/a")?;
+    let journal = lines_of(alloc, &[2, 4, 6, 8])?;
+    for (lines, size, blocks) in [(1, 0, 0), (2, 5_001, 1), (3, 5_001, 0), (4, 9_001, 0)] {
+        let earlier = journal.get(..lines).ok_or("the journal has four lines")?;
+        let file = state_at(alloc, &script, &answers, &a, earlier)?;
+        assert_eq!(rt; (file.attr().size, file.blocks()), (size, blocks));
+    }
     Ok(())
 }

@@ -15,6 +15,7 @@ pub mod InReach
 pub mod Refused
 pub mod Cases
 mod TableCases
+mod TwoPhases
 pub mod Jobs
 pub mod Programs
 pub mod AnsweredLines

@@ -1,6 +1,12 @@
 mod cases;
+mod many_clients;
+mod refusals;
 
-use self::cases::{CASES, FIVE_LINES, FIVE_LINES_REPORT};
+use self::cases::{
+    CASES, FIVE_LINES, FIVE_LINES_REPORT, READ_BESIDE_SYNC, READ_BESIDE_SYNC_REPORTS,
+};
+use self::many_clients::{neighbours_job, neighbours_report};
+use self::refusals::{FOUR_CLIENTS, HEADERS, LINES, SIZES};
 use super::{top, top_calm};
 use crate::outside::{CalmSource, MemSink, MemSource, NoHost};
 use fs_types::{Status, Want};
@@ -8,7 +14,7 @@ use std::alloc::Global;
 use std::test::Fail;
 
 /// Room for all that a call of the tests writes.
-const ROOM: usize = 4096;
+const ROOM: usize = 16_384;
 
 // The words of a command line.
 fn command_words(alloc: Global, texts: &[&str]) -> Result<Vec<String>, Want> {
@@ -19,19 +25,10 @@ fn command_words(alloc: Global, texts: &[&str]) -> Result<Vec<String>, Want> {
     Ok(words)
 }
 
-// How a call ends on an input that has these bytes so many times, and what its output took.
-fn ended(
-    alloc: Global,
-    texts: &[&str],
-    bytes: &[u8],
-    times: usize,
-) -> Result<(Status, MemSink), Want> {
+// How a call ends on an input of these bytes, and what its output took.
+fn ended(alloc: Global, texts: &[&str], bytes: &[u8]) -> Result<(Status, MemSink), Want> {
     let words = command_words(alloc, texts)?;
-    let mut input = Vec::new(alloc);
-    for _ in 0..times {
-        input.extend_from_slice(bytes)?;
-    }
-    let mut source = CalmSource::new(input, ROOM);
+    let mut source = CalmSource::new(Vec::from_slice(alloc, bytes)?, ROOM);
     let mut sink = MemSink::new(alloc, ROOM, ROOM, Vec::new(alloc))?;
     let status = top_calm(alloc, &words, &mut source, &mut sink, &mut NoHost::new());
     Ok((status, sink))
@@ -39,10 +36,65 @@ fn ended(
 
 #[test]
 fn each_call_has_its_status_and_output(rt: HostRuntime) -> Result<(), Fail> {
-    for (i, (texts, bytes, times, status, output)) in CASES.iter().enumerate() {
-        let (ends, sink) = ended(rt.alloc(), texts, bytes, *times)?;
+    for (i, (texts, bytes, status, output)) in CASES.iter().enumerate() {
+        let (ends, sink) = ended(rt.alloc(), texts, bytes)?;
         assert!(rt; ends == *status && sink.bytes() == *output, "case {i}");
     }
+    Ok(())
+}
+
+// Whether a job of this script prints this, and ends as a call that prints it does. A refused
+// script has its one line and no more.
+fn prints(alloc: Global, script: &[u8], output: &[u8]) -> Result<bool, Want> {
+    let (status, sink) = ended(alloc, &["sim", "0"], script)?;
+    let wanted = match output {
+        [b'r', ..] => Status::Refused,
+        _ => Status::Done,
+    };
+    Ok(status == wanted && sink.bytes() == output)
+}
+
+#[test]
+fn faults_of_a_script_are_named_in_their_order(rt: HostRuntime) -> Result<(), Fail> {
+    let alloc = rt.alloc();
+    for (headers, output) in HEADERS {
+        for (i, header) in headers.iter().enumerate() {
+            assert!(rt; prints(alloc, header, output)?, "header {i}");
+        }
+    }
+    for (i, (lines, output)) in LINES.iter().enumerate() {
+        let mut script = Vec::from_slice(alloc, FOUR_CLIENTS)?;
+        script.extend_from_slice(lines)?;
+        assert!(rt; prints(alloc, &script, output)?, "lines {i}");
+    }
+    for (i, (text, byte, times, output)) in SIZES.iter().enumerate() {
+        let mut script = Vec::from_slice(alloc, text)?;
+        script.extend_from_slice(&vec![in alloc; *byte; *times]?)?;
+        assert!(rt; prints(alloc, &script, output)?, "size {i}");
+    }
+    Ok(())
+}
+
+#[test]
+fn a_read_after_a_barrier_shows_each_sync_before_it(rt: HostRuntime) -> Result<(), Fail> {
+    let alloc = rt.alloc();
+    for (seed, output) in READ_BESIDE_SYNC_REPORTS.iter().enumerate() {
+        let word = format!(in alloc; "{seed}")?;
+        let (status, sink) = ended(alloc, &["sim", &word], READ_BESIDE_SYNC)?;
+        assert!(rt;
+            status == Status::Done && sink.bytes() == *output,
+            "seed {seed}"
+        );
+    }
+    Ok(())
+}
+
+#[test]
+fn each_of_many_clients_reads_the_file_of_the_next(rt: HostRuntime) -> Result<(), Fail> {
+    let alloc = rt.alloc();
+    let job = neighbours_job(alloc)?;
+    let (status, sink) = ended(alloc, &["sim", "5"], job.as_bytes())?;
+    assert!(rt; status == Status::Done && sink.bytes() == neighbours_report(alloc)?.as_bytes());
     Ok(())
 }
 
@@ -87,7 +139,7 @@ fn nothing_is_written_where_the_second_read_fails(rt: HostRuntime) -> Result<(),
 // made do with less room. Where the call can't even be set up, nothing is shown.
 #[test]
 fn five_lines_are_reported_on_or_nothing_is_written(rt: HostRuntime) -> Result<(), Fail> {
-    let Ok((status, sink)) = ended(rt.alloc(), &["sim", "0"], FIVE_LINES, 1) else {
+    let Ok((status, sink)) = ended(rt.alloc(), &["sim", "0"], FIVE_LINES) else {
         return Ok(());
     };
     let output = match status {

@@ -2,17 +2,17 @@
 
 use fs_types::Status;
 
-/// The words of a call, the bytes of its input and how often it has them, the status, and the whole
-/// output.
+/// The words of a call, the bytes of its input, the status, and the whole output.
 pub type Case = (
     &'static [&'static str],
     &'static [u8],
-    usize,
     Status,
     &'static [u8],
 );
 
 const SIM: &[&str] = &["sim", "0"];
+
+const SIM_1: &[&str] = &["sim", "1"];
 
 const SIM_BY_THE_LAST_SEED: &[&str] = &["sim", "18446744073709551615"];
 
@@ -131,63 +131,162 @@ F /unifyfs/b n=4 frozen=0 md5=8d32ca7e67c623e158e98450528fcb91
 end
 ";
 
-const NO_HEADER: &[u8] = b"0 create /unifyfs/a\n";
-
-// The third of its lines is that of another client, and the fourth is no operation.
-const SECOND_CLIENT: &[u8] = b"unifyfs 1 servers=1 clients=1 chunk=64 shmem=4 spill=0
-
+// Client 0 opens a path beside the other client's create, and again in the next phase.
+const OPEN_BESIDE_CREATE: &[u8] = b"unifyfs 1 servers=2 clients=2 chunk=64 shmem=4 spill=0
+0 open /unifyfs/a
 1 create /unifyfs/a
-0 remove /unifyfs/a
+barrier
+0 open /unifyfs/a
 ";
 
-const MANY_CLIENTS: &[u8] = b"unifyfs 1 servers=1 clients=65 chunk=64 shmem=4 spill=0\n0\n";
-
-const LONG_READ: &[u8] = b"unifyfs 1 servers=1 clients=1 chunk=64 shmem=4 spill=0
-0 read /unifyfs/a 0 16777217
-0
+const OPEN_BEFORE_CREATE_REPORT: &[u8] = b"L 2 noent v=0
+L 3 ok v=1
+L 5 ok v=1
+J /unifyfs/a 3
+F /unifyfs/a n=0 frozen=0 md5=d41d8cd98f00b204e9800998ecf8427e
+end
 ";
 
-const HEADER_REFUSED: &[u8] = b"refused header\n";
+const OPEN_AFTER_CREATE_REPORT: &[u8] = b"L 2 ok v=1
+L 3 ok v=1
+L 5 ok v=1
+J /unifyfs/a 3
+F /unifyfs/a n=0 frozen=0 md5=d41d8cd98f00b204e9800998ecf8427e
+end
+";
 
-const RANK_REFUSED: &[u8] = b"refused line=3 reason=rank\n";
+// A client asks for a path that only another client opened, and then opens it after three syncs.
+const OPEN_FOR_ANOTHER: &[u8] = b"unifyfs 1 servers=2 clients=2 chunk=64 shmem=4 spill=0
+0 create /unifyfs/a
+0 write /unifyfs/a 0 t:abc
+0 sync /unifyfs/a
+0 write /unifyfs/a 9 t:j
+0 sync /unifyfs/a
+0 write /unifyfs/a 1 p:18446744073709551615:2
+0 sync /unifyfs/a
+barrier
+1 read /unifyfs/a 0 10
+1 size /unifyfs/a
+1 write /unifyfs/a 0 t:z
+1 sync /unifyfs/a
+1 open /unifyfs/a
+1 size /unifyfs/a
+1 read /unifyfs/a 0 10
+";
+
+// The pattern of the greatest seed is the bytes 255 and 30.
+const OPEN_FOR_ANOTHER_REPORT: &[u8] = b"L 2 ok v=1
+L 3 ok slots=1
+L 4 ok v=2
+L 5 ok slots=1
+L 6 ok v=3
+L 7 ok slots=1
+L 8 ok v=4
+L 10 badf
+L 11 badf
+L 12 badf
+L 13 badf
+L 14 ok v=4
+L 15 ok v=4 n=10 frozen=0
+L 16 ok v=4 n=10 hex=61ff1e0000000000006a
+J /unifyfs/a 2 4 6 8
+F /unifyfs/a n=10 frozen=0 md5=02deb94b6a14971799e35c0101afb46d
+end
+";
+
+/// A read beside another client's sync, and once more in the next phase.
+pub const READ_BESIDE_SYNC: &[u8] = b"unifyfs 1 servers=2 clients=2 chunk=64 shmem=4 spill=0
+0 create /unifyfs/a
+barrier
+0 write /unifyfs/a 0 t:new
+1 open /unifyfs/a
+barrier
+0 sync /unifyfs/a
+1 read /unifyfs/a 0 3
+barrier
+1 read /unifyfs/a 0 3
+";
+
+const READ_BEFORE_SYNC: &[u8] = b"L 2 ok v=1
+L 4 ok slots=1
+L 5 ok v=1
+L 7 ok v=2
+L 8 ok v=1 n=0 hex=
+L 10 ok v=2 n=3 hex=6e6577
+J /unifyfs/a 2 7
+F /unifyfs/a n=3 frozen=0 md5=22af645d1859cb5ca6da0c484f1f37ea
+end
+";
+
+const READ_AFTER_SYNC: &[u8] = b"L 2 ok v=1
+L 4 ok slots=1
+L 5 ok v=1
+L 7 ok v=2
+L 8 ok v=2 n=3 hex=6e6577
+L 10 ok v=2 n=3 hex=6e6577
+J /unifyfs/a 2 7
+F /unifyfs/a n=3 frozen=0 md5=22af645d1859cb5ca6da0c484f1f37ea
+end
+";
+
+/// Its reports by the seeds from 0 on. Whichever goes first, the second read shows the sync.
+pub const READ_BESIDE_SYNC_REPORTS: [&[u8]; 16] = [
+    READ_AFTER_SYNC,
+    READ_BEFORE_SYNC,
+    READ_BEFORE_SYNC,
+    READ_BEFORE_SYNC,
+    READ_BEFORE_SYNC,
+    READ_BEFORE_SYNC,
+    READ_AFTER_SYNC,
+    READ_AFTER_SYNC,
+    READ_AFTER_SYNC,
+    READ_AFTER_SYNC,
+    READ_AFTER_SYNC,
+    READ_AFTER_SYNC,
+    READ_BEFORE_SYNC,
+    READ_BEFORE_SYNC,
+    READ_BEFORE_SYNC,
+    READ_BEFORE_SYNC,
+];
 
 const USAGE: &[u8] = b"usage: unifyfs sim SEED | run | check NAME | load N | stage NAME\n";
 
-pub const CASES: [Case; 18] = [
-    (SIM, FIVE_LINES, 1, Status::Done, FIVE_LINES_REPORT),
+pub const CASES: [Case; 17] = [
+    (SIM, FIVE_LINES, Status::Done, FIVE_LINES_REPORT),
     (
         SIM_BY_THE_LAST_SEED,
         FIVE_LINES,
-        1,
         Status::Done,
         FIVE_LINES_REPORT,
     ),
-    (SIM, EACH_ROW, 1, Status::Done, EACH_ROW_REPORT),
-    (SIM, LAST_PLACE, 1, Status::Done, LAST_PLACE_REPORT),
-    (SIM, TWO_CLIENTS, 1, Status::Done, TWO_CLIENTS_REPORT),
-    (SIM, NO_OPERATION, 1, Status::Done, b"end\n"),
-    (SIM, b"", 1, Status::Refused, HEADER_REFUSED),
-    (SIM, NO_HEADER, 1, Status::Refused, HEADER_REFUSED),
-    (SIM, SECOND_CLIENT, 1, Status::Refused, RANK_REFUSED),
+    (SIM, EACH_ROW, Status::Done, EACH_ROW_REPORT),
+    (SIM, LAST_PLACE, Status::Done, LAST_PLACE_REPORT),
+    (SIM, TWO_CLIENTS, Status::Done, TWO_CLIENTS_REPORT),
     (
         SIM,
-        MANY_CLIENTS,
-        1,
-        Status::Refused,
-        b"refused limit line=1\n",
+        OPEN_BESIDE_CREATE,
+        Status::Done,
+        OPEN_BEFORE_CREATE_REPORT,
     ),
     (
-        SIM,
-        LONG_READ,
-        1,
-        Status::Refused,
-        b"refused limit line=2\n",
+        SIM_1,
+        OPEN_BESIDE_CREATE,
+        Status::Done,
+        OPEN_AFTER_CREATE_REPORT,
     ),
-    (SIM, b"\n", 4_194_304, Status::Refused, HEADER_REFUSED),
-    (SIM, b"\n", 4_194_305, Status::Refused, b"refused long\n"),
-    (&[], NO_OPERATION, 1, Status::Usage, USAGE),
-    (&["sim"], NO_OPERATION, 1, Status::Usage, USAGE),
-    (&["sim", "01"], NO_OPERATION, 1, Status::Usage, USAGE),
-    (&["sim", "0", "0"], NO_OPERATION, 1, Status::Usage, USAGE),
-    (&["run"], NO_OPERATION, 1, Status::Usage, USAGE),
+    (SIM, OPEN_FOR_ANOTHER, Status::Done, OPEN_FOR_ANOTHER_REPORT),
+    (
+        SIM_1,
+        OPEN_FOR_ANOTHER,
+        Status::Done,
+        OPEN_FOR_ANOTHER_REPORT,
+    ),
+    (SIM, NO_OPERATION, Status::Done, b"end\n"),
+    (&[], NO_OPERATION, Status::Usage, USAGE),
+    (&["sim"], NO_OPERATION, Status::Usage, USAGE),
+    (&["sim", "01"], NO_OPERATION, Status::Usage, USAGE),
+    (&["sim", "-1"], NO_OPERATION, Status::Usage, USAGE),
+    (&["sim", "0", "0"], NO_OPERATION, Status::Usage, USAGE),
+    (&["load", "1001"], NO_OPERATION, Status::Usage, USAGE),
+    (&["run"], NO_OPERATION, Status::Usage, USAGE),
 ];
