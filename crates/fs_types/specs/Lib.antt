@@ -8,3 +8,5 @@ pub mod Marks
 pub mod PathLaws
 pub mod AnswerList
 pub mod AnswerLaws
+pub mod Faults
+pub mod Room
