@@ -6,3 +6,4 @@ pub mod AnswerOrder
 pub mod Grammar
 mod Cases
 mod OverwriteCases
+mod FragmentCases

@@ -10,3 +10,5 @@ pub mod AnswerList
 pub mod AnswerLaws
 pub mod Faults
 pub mod Room
+pub mod Pieces
+pub mod Fragments

@@ -2,7 +2,7 @@
 
 ghost use Rattle.std.specs.Prelude.{◌≡◌, ◌↔◌, ℕ, Bool, Option, IsTrue, IfOk, OnOk, OnErr, IsErrOf};
 ghost use Rattle.fs_types.specs.Room.{is_at_most, lowered, IsAtLeast};
-ghost use Rattle.fs_types.specs.declared.fragment.PieceId.{PieceId};
+ghost use Rattle.fs_types.specs.Pieces.{Piece};
 
 use crate::fragment::PieceId;
 use thiserror::Error;
@@ -24,7 +24,7 @@ pub trait Hold: Sized {
     ghost is_ready: { Self → Bool };
 
     /// The piece that it holds.
-    ghost piece: { Self → PieceId };
+    ghost piece: { Self → Piece };
 
     /// How many bytes the piece has.
     ghost bytes: { Self → ℕ };

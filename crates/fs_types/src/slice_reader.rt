@@ -8,7 +8,7 @@ use crate::piece_reader::PieceReader;
 use std::sync::Wait;
 
 /// A reader of a slice, which never fails.
-#[derive(Debug)]
+#[derive(Debug, Drop)]
 pub struct SliceReader<'a> {
     bytes: &'a [u8],
     rank: Rank,
