@@ -3,6 +3,7 @@ use Rattle.fs_types.proofs.Common.{◌≡◌, true, false, [], ◌∷◌, Some, 
 use Rattle.fs_types.specs.AnswerList.{answer_at, put_answer}
 use Rattle.fs_types.specs.NameText.{is_name}
 use Rattle.fs_types.specs.PathText.{is_path}
+use Rattle.fs_types.specs.Room.{is_at_most, lowered}
 use Rattle.fs_types.specs.declared.answer.Answer.TheVariants.{BadF, TooBig}
 
 path_of_one_component : is_path (codes "/unifyfs/a") ≡ true
@@ -40,3 +41,18 @@ found = refl
 
 not_found : answer_at ((2, BadF) ∷ (4, TooBig) ∷ []) 3 ≡ None
 not_found = refl
+
+room_that_was_asked_for : is_at_most (Some 3) 3 ≡ true
+room_that_was_asked_for = refl
+
+room_for_one_pin_more : is_at_most (Some 3) 2 ≡ false
+room_for_one_pin_more = refl
+
+room_without_end : is_at_most None 18446744073709551615 ≡ false
+room_without_end = refl
+
+room_after_a_pin : lowered 2 (Some 7) ≡ Some 4
+room_after_a_pin = refl
+
+no_less_room_without_end : lowered 2 None ≡ None
+no_less_room_without_end = refl

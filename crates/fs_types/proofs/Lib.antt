@@ -7,3 +7,4 @@ pub mod AnswerOrder
 pub mod Grammar
 mod Cases
 mod OverwriteCases
+mod FragmentCases

@@ -8,3 +8,7 @@ pub mod Marks
 pub mod PathLaws
 pub mod AnswerList
 pub mod AnswerLaws
+pub mod Faults
+pub mod Room
+pub mod Pieces
+pub mod Fragments

@@ -1,4 +1,7 @@
+ghost use Rattle.std.specs.Prelude.{◌≤◌, ◌+◌, length, IsTrue};
+
 use super::*;
+use std::sync::Wait;
 use std::test::Fail;
 
 #[test]
@@ -88,6 +91,73 @@ fn short_bytes_hold_up_to_32(rt: HostRuntime) {
     for text in texts {
         assert_eq!(rt; ShortBytes::new(text).as_bytes(), text);
     }
+}
+
+// The part and the bytes of a pin, through the bound.
+fn pinned<H: Hold + Drop>(hold: &mut H, asked: u64) -> Result<(u32, u32), PinNo>
+    requires { IsTrue (H.is_ready hold.old) }
+    ensures { IsTrue (H.is_ready hold.new) }
+{
+    let pin = hold.pin(asked)?;
+    Ok((pin.piece().part, pin.bytes()))
+}
+
+#[test]
+fn pins_take_their_room(rt: HostRuntime) {
+    let piece = PieceId {
+        line: LineNo(3),
+        part: 1,
+    };
+    let asks = [
+        (Some(2), 2, Err(PinNo::NoRoom)),
+        (Some(3), 2, Ok((1, 64))),
+        (Some(0), 0, Err(PinNo::NoRoom)),
+        (None, u64::MAX, Ok((1, 64))),
+    ];
+    for (room, asked, answer) in asks {
+        let mut hold = MemHold::new(piece, 64, room);
+        assert_eq!(rt; pinned(&mut hold, asked), answer);
+    }
+    let mut hold = MemHold::new(piece, 64, Some(7));
+    assert_eq!(rt; pinned(&mut hold, 2), Ok((1, 64)));
+    assert_eq!(rt; pinned(&mut hold, 4), Err(PinNo::NoRoom));
+    assert_eq!(rt; pinned(&mut hold, 3), Ok((1, 64)));
+    assert_eq!(rt; pinned(&mut hold, 0), Err(PinNo::NoRoom));
+}
+
+// A read through the bound.
+fn read_from<P: PieceReader, R: Wait>(
+    rt: &R,
+    reader: &mut P,
+    from: u32,
+    out: &mut [u8],
+) -> Result<(), DevFault>
+    requires { from + length out.old ≤ length (P.content reader.old) }
+{
+    reader.read(rt, from, out)
+}
+
+#[test]
+fn a_slice_is_read_from_any_place(rt: HostRuntime) {
+    let reads = [(0, b"hel".as_slice()), (2, b"llo"), (5, b"")];
+    for (from, bytes) in reads {
+        let mut reader = SliceReader::new(b"hello", Rank(2));
+        let mut out = [0; 3];
+        let part = &mut out[..bytes.len()];
+        assert_eq!(rt; read_from(&rt, &mut reader, from, part), Ok(()));
+        assert_eq!(rt; &*part, bytes);
+    }
+}
+
+#[test]
+fn staged_bytes_are_given_back(rt: HostRuntime) -> Result<(), Fail> {
+    let out = StagedOut {
+        line: LineNo(4),
+        bytes: ByteList::of(Vec::from_slice(rt.alloc(), b"out")?),
+    };
+    assert_eq!(rt; out.bytes.as_slice(), b"out".as_slice());
+    assert_eq!(rt; out.bytes.into_vec().as_slice(), b"out".as_slice());
+    Ok(())
 }
 
 #[test]
