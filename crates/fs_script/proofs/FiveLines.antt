@@ -87,8 +87,7 @@ sync_fits = record {
   version = record {
     front = omega arith;
     length = omega arith;
-    no_later =
-        (record { phase = omega arith; own = λ _. omega arith }, (record { phase = omega arith; own = λ _. omega arith }, tt));
+    no_later = (record { phase = omega arith; own = λ _. omega arith }, (record { phase = omega arith; own = λ _. omega arith }, tt));
   };
   answer = refl;
 }
@@ -99,8 +98,7 @@ read_fits = record {
   version = record {
     front = omega arith;
     length = omega arith;
-    no_later =
-        (record { phase = omega arith; own = λ _. omega arith }, (record { phase = omega arith; own = λ _. omega arith }, tt));
+    no_later = (record { phase = omega arith; own = λ _. omega arith }, (record { phase = omega arith; own = λ _. omega arith }, tt));
   };
   answer = record { count = refl; same = λ _. refl };
 }

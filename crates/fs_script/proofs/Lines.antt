@@ -1,8 +1,7 @@
 -- The lines of a text, one after the other.
-use Rattle.fs_types.proofs.Common.{common_steps}
-use Rattle.fs_types.proofs.Common.{◌≡◌, ℕ, ◌+◌, ◌<◌, ◌≤◌, ◌==◌, Bool, false, List, [], ◌∷◌, length, take, drop, Some, None, refl, sym, ap}
-use Rattle.fs_types.proofs.Common.{◌∙◌, arith, ◌++◌, Result, Ok, Err, append_assoc, length-append, slice_split, position, position_or_len}
-use Rattle.fs_types.proofs.Common.{All, slice_split_first, slice_split_none, length-slice_split, fails_before_first, nat_tests}
+use Rattle.fs_types.proofs.Common.{common_steps, ◌≡◌, ℕ, ◌+◌, ◌<◌, ◌≤◌, ◌==◌, Bool, List, [], ◌∷◌, length, take, drop, Some, None, refl}
+use Rattle.fs_types.proofs.Common.{sym, ap, arith, ◌++◌, Result, Ok, Err, append_assoc, position, position_or_len, slice_split_first}
+use Rattle.fs_types.proofs.Common.{slice_split_none, length-slice_split, fails_before_first, nat_tests}
 use Rattle.fs_script.specs.Vocabulary.{Line, ScriptFault, Shape}
 use Rattle.fs_script.specs.Reading.{with_line, line_of, lines_from}
 use Rattle.fs_script.specs.Grammar.{without_empty_end, lines_of}

@@ -1,11 +1,9 @@
 -- An answer that fits a legal journal is printable, where the bytes that it shows are compared.
-use Rattle.fs_types.proofs.Common.{common_steps}
-use Rattle.fs_types.proofs.Common.{◌≡◌, ℕ, ◌^◌, ◌<◌, nat_le, List, length, drop, Option, Some, None, sym, subst, arith, div-le_self}
-use Rattle.fs_types.proofs.Common.{cond_both, leb-true, All-take, All-drop, recursion_from_All}
-use Rattle.md5.specs.Md5.{md5}
-use Rattle.fs_script.specs.Vocabulary.{Answer, Body, HEX_LIMIT, shown, File, OpLine, Op, Text, Job, op_at, brought, Range, asked, Answering}
-use Rattle.fs_script.specs.Vocabulary.{state, AreTold, LineView, line_view, Accepts, ShowsAsked, Fits, body_of, IsLegalJournal}
-use Rattle.fs_script.specs.Vocabulary.{IsPrintableBody, IsPrintableAnswer}
+use Rattle.fs_types.proofs.Common.{common_steps, ◌≡◌, ℕ, ◌^◌, ◌<◌, List, length, drop, Option, Some, None, sym, subst, arith, div-le_self}
+use Rattle.fs_types.proofs.Common.{leb-true, All-take, All-drop, recursion_from_All}
+use Rattle.fs_script.specs.Vocabulary.{Answer, Body, shown, File, OpLine, Op, Text, Job, op_at, brought, Range, asked, Answering, state}
+use Rattle.fs_script.specs.Vocabulary.{AreTold, LineView, line_view, Accepts, ShowsAsked, Fits, body_of, IsLegalJournal, IsPrintableBody}
+use Rattle.fs_script.specs.Vocabulary.{IsPrintableAnswer}
 use Rattle.fs_script.specs.Grammar.{IsJob, IsOp}
 use Rattle.fs_types.proofs.CallerLemmas.{length-shown}
 use Rattle.fs_script.proofs.Digests.{IsDigest-md5}
@@ -13,7 +11,6 @@ use Rattle.fs_script.proofs.FileBytes.{AllBytes, IsWithinLimits, IsWithinLimits-
 use Rattle.fs_script.proofs.Jobs.{IsOpLine-from_job}
 use Rattle.fs_script.proofs.JournalLines.{length-journal}
 use Rattle.fs_types.specs.declared.answer.Answer.TheVariants as answers
-use Rattle.fs_types.specs.declared.answer.Body.TheVariants as bodies
 use Rattle.fs_script.specs.declared.line.Op.TheVariants as ops
 
 -- ---- slots

@@ -1,8 +1,7 @@
 -- The text of a printable report reads as that report, whatever follows it.
-use Rattle.fs_types.proofs.Common.{common_steps}
-use Rattle.fs_types.proofs.Common.{◌≡◌, ℕ, zero, suc, Result, ◌==◌, slice_index, ◌^◌, ◌<◌, Bool, true, false, List, [], ◌∷◌, ◌++◌, map}
-use Rattle.fs_types.proofs.Common.{length, codes, refl, sym, ap, ◌∙◌, subst, arith, AllByRecursion, flat_map, decimal, result_unwrap_or}
-use Rattle.fs_types.proofs.Common.{decimal_is_IsNumeral, append_cancel_left}
+use Rattle.fs_types.proofs.Common.{common_steps, ◌≡◌, ℕ, zero, suc, Result, ◌==◌, slice_index, ◌^◌, ◌<◌, Bool, true, false, List, [], ◌∷◌}
+use Rattle.fs_types.proofs.Common.{◌++◌, map, length, codes, refl, sym, ap, ◌∙◌, subst, arith, AllByRecursion, flat_map, decimal}
+use Rattle.fs_types.proofs.Common.{result_unwrap_or, decimal_is_IsNumeral, append_cancel_left}
 use Rattle.hex.specs.Hex.{encode_lower, IsBytes}
 use Rattle.hex.specs.declared.error.FromHexError.{FromHexError}
 use Rattle.fs_script.specs.Vocabulary.{Answer, Body, FileState, Report, text, answer_text, answer_line, body_text, entry_text, journal_line}
@@ -13,7 +12,7 @@ use Rattle.hex.proofs.HexLemmas.{decode_of-encode_lower}
 use Rattle.fs_script.proofs.TextParts.{AreAbove, cut_at, cut_at-first, cut_at-none, AreAbove-append, AreAbove-lower, AreAbove-decimal}
 use Rattle.fs_script.proofs.TextParts.{AreAbove-encode_lower, AreAbove-path}
 use Rattle.fs_script.proofs.TextReader.{number, bytes_of_hex, read_body, read_answer, read_state, with_answer, with_journal, with_file}
-use Rattle.fs_script.proofs.TextReader.{with_line, read_lines, read}
+use Rattle.fs_script.proofs.TextReader.{with_line, read}
 use Rattle.fs_types.specs.declared.answer.Answer.TheVariants as answers
 use Rattle.fs_types.specs.declared.answer.Body.TheVariants as bodies
 use Rattle.fs_types.specs.declared.file_state.FileState.TheVariants as states

@@ -1,7 +1,6 @@
 -- A header and a line by their words, as code sees them in a slice.
-use Rattle.fs_types.proofs.Common.{common_steps}
-use Rattle.fs_types.proofs.Common.{◌≡◌, ◌≢◌, ℕ, ◌<◌, ◌≤◌, Bool, true, ◌&&◌, cond, List, [], ◌∷◌, map, length, get_or, drop, Option, None}
-use Rattle.fs_types.proofs.Common.{Bor, refl, sym, ap, ◌∙◌, arith, codes, bytes_eq}
+use Rattle.fs_types.proofs.Common.{common_steps, ◌≡◌, ◌≢◌, ℕ, ◌<◌, ◌≤◌, Bool, true, ◌&&◌, cond, List, [], ◌∷◌, map, length, get_or, drop}
+use Rattle.fs_types.proofs.Common.{Option, None, Bor, refl, arith, codes, bytes_eq}
 use Rattle.fs_script.specs.Vocabulary.{Shape}
 use Rattle.fs_script.specs.Reading.{shape_of, header_of_words, line_of_words, op_line_of, op_of_words}
 
