@@ -40,8 +40,7 @@ pub journal_of-zip : (ps js : List (List ℕ)) (i : ℕ) (p j : List ℕ) → Ar
 journal_of-zip [] js i p j rising at beside = absurd cc
 journal_of-zip (q ∷ qs) [] i p j rising at beside = absurd cc
 journal_of-zip (q ∷ qs) (k ∷ ks) zero p j rising at beside =
-    cond-true (bytes_eq q p) k (journal_of (zip qs ks) p) (same_bytes q p (same_Some q p at))
-    ∙ same_Some k j beside
+    cond-true (bytes_eq q p) k (journal_of (zip qs ks) p) (same_bytes q p (same_Some q p at)) ∙ same_Some k j beside
 journal_of-zip (q ∷ qs) (k ∷ ks) (suc i) p j rising at beside =
     journal_of-later (q, k) (zip qs ks) p (other_bytes q p (λ e. not_among q qs i rising.0 (at ∙ ap Some (sym e))))
     ∙ journal_of-zip qs ks i p j rising.1 at beside

@@ -1,8 +1,7 @@
 -- Clients whose lines were answered up to a place of their programs: the line that comes next, and what an answer changes.
-use Rattle.fs_types.proofs.Common.{common_steps}
-use Rattle.fs_types.proofs.Common.{◌≡◌, ◌≢◌, ℕ, ◌+◌, ◌<◌, length, Option, Some, None, IsSome, is_some, slice_get, sym, ap, ◌∙◌, subst, refl}
-use Rattle.fs_types.proofs.Common.{inl, inr, arith, cases_eq, ltb-true, lt-ltb, le-ltb, nat_tests, same_Some, none-some}
-use Rattle.fs_script.specs.Vocabulary.{Answer, Job, op_at, rank_in, rank_at, is_of_rank, program, Answering, AddsAnswer, ComesNext}
+use Rattle.fs_types.proofs.Common.{common_steps, ◌≡◌, ◌≢◌, ℕ, ◌+◌, ◌<◌, length, Some, None, IsSome, is_some, slice_get, sym, ap, ◌∙◌, subst}
+use Rattle.fs_types.proofs.Common.{inl, inr, arith, cases_eq, ltb-true, lt-ltb, le-ltb, nat_tests, same_Some}
+use Rattle.fs_script.specs.Vocabulary.{Answer, Job, op_at, rank_at, is_of_rank, program, Answering, AddsAnswer, ComesNext}
 use Rattle.core_machine.specs.Vocabulary.{OpLine, IsAnsweredUpTo}
 use Rattle.fs_script.proofs.CallerLemmas.{none_from-is_some, passing-rise, passing-places, program-place, program-op}
 

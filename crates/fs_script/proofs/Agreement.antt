@@ -1,8 +1,7 @@
 -- What the answers before a line decide: its client's pending writes, the version it has seen, and whether its path is open.
 -- Answers that agree at that client's lines on that path before the line give the same.
-use Rattle.fs_types.proofs.Common.{common_steps}
-use Rattle.fs_types.proofs.Common.{◌≡◌, ℕ, zero, suc, ◌≤◌, List, [], Option, Some, None, IsSome, bytes_eq, cond, refl, ap, ◌∙◌, arith}
-use Rattle.fs_types.proofs.Common.{cond_both, nat_tests}
+use Rattle.fs_types.proofs.Common.{common_steps, ◌≡◌, ℕ, zero, suc, ◌≤◌, List, [], Option, Some, None, IsSome, bytes_eq, cond, refl, ap}
+use Rattle.fs_types.proofs.Common.{◌∙◌, arith, cond_both}
 use Rattle.fs_script.specs.Vocabulary.{Answer, answer_at, put_answer, File, Op, OpLine, Job, op_at, own_at, Cells, Answering, after_answer}
 use Rattle.fs_script.specs.Vocabulary.{one_more, over_answers, pending, pending_for, pending_at, effect_in, effect, commit_by, commit_in}
 use Rattle.fs_script.specs.Vocabulary.{committed, AgreeBefore, AddsAnswer}

@@ -1,8 +1,6 @@
 -- A job that is legal so far, with an answer to each of its operations, has a legal report.
-use Rattle.fs_types.proofs.Common.{common_steps}
-use Rattle.fs_types.proofs.Common.{◌≡◌, ℕ, zero, suc, ◌<◌, ◌==◌, List, [], ◌∷◌, length, map, Some, IsSome, is_some, Contains}
-use Rattle.fs_types.proofs.Common.{slice_index_or, refl, sym, ap, subst, arith, cond_both, eqb-false, slice_get_within}
-use Rattle.fs_types.proofs.Common.{get_or_from_slice_get}
+use Rattle.fs_types.proofs.Common.{common_steps, ◌≡◌, ℕ, zero, suc, ◌<◌, ◌==◌, List, [], ◌∷◌, length, map, Some, IsSome, is_some, Contains}
+use Rattle.fs_types.proofs.Common.{slice_index_or, refl, ap, arith, cond_both, eqb-false, slice_get_within, get_or_from_slice_get}
 use Rattle.fs_script.specs.Vocabulary.{Answer, answer_at, OpLine, Job, op_at, op_lines, Report, HasShape, FilesAreStates, IsLegal}
 use Rattle.fs_script.specs.Vocabulary.{answers_of, journal_of, IsLegalSoFar}
 use Rattle.fs_script.proofs.PlainLists.{passing-place, some_of}

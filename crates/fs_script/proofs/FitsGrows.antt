@@ -1,13 +1,11 @@
 -- An answer that fits goes on fitting: as answers come that change nothing before its line or pending at the journal's lines,
 -- and as the journal grows at its end by lines of no earlier phase.
-use Rattle.fs_types.proofs.Common.{common_steps}
-use Rattle.fs_types.proofs.Common.{◌≡◌, ℕ, zero, suc, ◌≤◌, Bool, true, false, IsTrue, List, [], ◌∷◌, ◌++◌, length, Option, Some, None}
-use Rattle.fs_types.proofs.Common.{IsSome, IsNone, IfSome, MatchBool, sym, subst, arith, AllByRecursion, none-some, take-append-le}
-use Rattle.fs_types.proofs.Common.{length_push}
+use Rattle.fs_types.proofs.Common.{common_steps, ◌≡◌, ℕ, zero, suc, ◌≤◌, Bool, true, false, IsTrue, List, [], ◌∷◌, ◌++◌, length, Option}
+use Rattle.fs_types.proofs.Common.{Some, None, IsSome, IsNone, IfSome, MatchBool, sym, subst, arith, none-some}
 use Rattle.fs_script.specs.Vocabulary.{Answer, File, is_open_to_change, is_frozen, OpLine, Op, Job, phase, Write, brought, bytes_of, asked}
-use Rattle.fs_script.specs.Vocabulary.{commits, version_of, Answering, state, front, IsNoLater, IsInReach, entry, AreTold, AgreesWithOpen}
-use Rattle.fs_script.specs.Vocabulary.{LineView, line_view, MayWrite, IsAtFront, Accepts, EndsPast, ShowsAsked, IsInTable, Fits}
-use Rattle.fs_script.specs.Vocabulary.{AgreeBefore, SamePending}
+use Rattle.fs_script.specs.Vocabulary.{commits, version_of, Answering, state, front, IsInReach, entry, AreTold, AgreesWithOpen, LineView}
+use Rattle.fs_script.specs.Vocabulary.{line_view, MayWrite, IsAtFront, Accepts, EndsPast, ShowsAsked, IsInTable, Fits, AgreeBefore}
+use Rattle.fs_script.specs.Vocabulary.{SamePending}
 use Rattle.fs_script.proofs.Agreement.{pending-agree, over_answers-agree}
 use Rattle.fs_script.proofs.States.{state_in-agree, state_in-push}
 use Rattle.fs_script.proofs.Fronts.{front-agree, front-push}

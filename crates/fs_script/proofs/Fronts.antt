@@ -1,7 +1,5 @@
 -- Phases rise with the lines, and a front doesn't change while the journal grows by lines of no earlier phase.
-use Rattle.fs_types.proofs.Common.{common_steps}
-use Rattle.fs_types.proofs.Common.{◌≡◌, ℕ, ◌+◌, ◌-◌, ◌≤◌, List, [], ◌∷◌, ◌++◌, length, max, cond, nat_lt, ap, ◌∙◌, le-ltb, arith}
-use Rattle.fs_types.proofs.Common.{sum_by_push, count_by-le-length}
+use Rattle.fs_types.proofs.Common.{common_steps, ◌≡◌, ℕ, ◌-◌, ◌≤◌, List, [], ◌∷◌, ◌++◌, length, max, nat_lt, ap, arith, count_by-le-length}
 use Rattle.fs_script.specs.Vocabulary.{Job, is_barrier, phase, Answering, seen, of_earlier_phases, front, AgreeBefore}
 use Rattle.fs_script.proofs.Agreement.{over_answers-agree}
 use Rattle.fs_script.proofs.PlainLists.{count_by-take-rises}

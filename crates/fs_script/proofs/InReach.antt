@@ -1,8 +1,7 @@
 -- A line that is answered now: its front is at most the present length of the journal, and which versions it may print.
-use Rattle.fs_types.proofs.Common.{common_steps}
-use Rattle.fs_types.proofs.Common.{◌≡◌, ℕ, zero, suc, ◌≤◌, ◌<◌, List, [], ◌∷◌, length, Option, Some, None, IsSome, ◌++◌, ◌==◌, ◌&&◌}
-use Rattle.fs_types.proofs.Common.{bytes_eq, eqb-true, refl, sym, ap, ◌∙◌, arith, ⊤, none-some, cond_some, MatchOption-at_some, and_parts}
-use Rattle.fs_types.proofs.Common.{length_push, bytes_eq-Decides, AllByRecursion}
+use Rattle.fs_types.proofs.Common.{common_steps, ◌≡◌, ℕ, zero, suc, ◌≤◌, ◌<◌, List, [], ◌∷◌, length, Option, Some, None, IsSome, ◌++◌, ◌==◌}
+use Rattle.fs_types.proofs.Common.{◌&&◌, bytes_eq, eqb-true, refl, sym, ap, ◌∙◌, arith, ⊤, none-some, cond_some, MatchOption-at_some}
+use Rattle.fs_types.proofs.Common.{and_parts, length_push, bytes_eq-Decides, AllByRecursion}
 use Rattle.fs_script.specs.Vocabulary.{Answer, OpLine, Op, Job, op_at, rank_at, rank_in, own_op, own_at, phase, Answering, one_more}
 use Rattle.fs_script.specs.Vocabulary.{version_of, at_least, seen, front, IsNoLater, IsInReach, IsLegalJournal, AllFit, ComesNext}
 use Rattle.fs_script.specs.Vocabulary.{IsOfNoEarlierPhase}

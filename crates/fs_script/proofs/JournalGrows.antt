@@ -1,9 +1,8 @@
 -- A legal journal stays legal as an answer comes: unchanged where the answer commits nothing, and with the line at its end where it does.
-use Rattle.fs_types.proofs.Common.{common_steps}
-use Rattle.fs_types.proofs.Common.{◌≡◌, ◌≢◌, ℕ, suc, ◌≤◌, ◌<◌, true, List, [], ◌∷◌, ◌++◌, length, Option, Some, None, IsSome, is_some, cond}
-use Rattle.fs_types.proofs.Common.{◌==◌, ◌&&◌, bytes_eq, slice_get, Contains, true≢false, eqb-true, refl, sym, ap, ◌∙◌, subst, subst₂, inl}
-use Rattle.fs_types.proofs.Common.{inr, arith, cases_eq, cases_Bool, and_parts, none-some, slice_get_within, Contains-append_left}
-use Rattle.fs_types.proofs.Common.{Contains-push}
+use Rattle.fs_types.proofs.Common.{common_steps, ◌≡◌, ◌≢◌, ℕ, suc, ◌≤◌, ◌<◌, true, List, [], ◌∷◌, ◌++◌, length, Option, Some, None, IsSome}
+use Rattle.fs_types.proofs.Common.{is_some, cond, ◌==◌, ◌&&◌, bytes_eq, slice_get, Contains, true≢false, eqb-true, refl, sym, ap, ◌∙◌}
+use Rattle.fs_types.proofs.Common.{subst, subst₂, inl, inr, arith, cases_eq, cases_Bool, and_parts, none-some, slice_get_within}
+use Rattle.fs_types.proofs.Common.{Contains-append_left, Contains-push}
 use Rattle.fs_script.specs.Vocabulary.{Answer, OpLine, Job, op_at, rank_at, rank_in, own_op, phase, bytes_of, Answering, pending_for}
 use Rattle.fs_script.specs.Vocabulary.{pending_at, is_enabled, state, committed, enabled_in, IsLegalEntry, IsLegalJournal, AgreeBefore}
 use Rattle.fs_script.specs.Vocabulary.{AddsAnswer, ComesNext, IsOfNoEarlierPhase, SamePending}
@@ -116,7 +115,8 @@ IsLegalJournal-kept {s} {A} {B} {p} {J} {n} {a} adds next none legal =
 -- an old entry in the longer journal
 IsLegalEntry-longer : {s : Job} {A : Answering} {p : List ℕ} {J : List ℕ} (n : ℕ) {k m : ℕ} → k < length J → m ≢ n
     → IsLegalEntry s A p J k m → IsLegalEntry s A p (J ++ n ∷ []) k m
-IsLegalEntry-longer {s} {A} {J} n {k} {m} below other legal = grind (arith, common_steps, slice_get-push_cases, slice_get-push_below, state_in-push)
+IsLegalEntry-longer {s} {A} {J} n {k} {m} below other legal =
+    grind (arith, common_steps, slice_get-push_cases, slice_get-push_below, state_in-push)
 
 -- the new line as an entry
 IsLegalEntry-new : {s : Job} {A B : Answering} {p : List ℕ} {J : List ℕ} {n : ℕ} {a : Answer} → AddsAnswer A n a B → ComesNext s A n

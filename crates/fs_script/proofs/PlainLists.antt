@@ -1,13 +1,12 @@
 -- Plain lists, ranges and options, in the forms that the definitions of this crate have: `AllByRecursion` and
 -- `slice_get`, where std's lemmas have `All` and `get_or`.
-use Rattle.fs_types.proofs.Common.{common_steps}
-use Rattle.fs_types.proofs.Common.{◌≡◌, ℕ, zero, suc, ◌+◌, ◌≤◌, ◌<◌, Bool, true, false, List, [], ◌∷◌, ◌++◌, map, length, take, get_or}
-use Rattle.fs_types.proofs.Common.{slice_get, count_by, cond, Option, Some, None, IsSome, is_some, ◌⊎◌, inl, inr, true≢false, refl, sym, ap}
-use Rattle.fs_types.proofs.Common.{◌∙◌, subst, subst₂, take-take, All, arith, AllByRecursion, filter, range_with_len, cond_both, cond-true}
-use Rattle.fs_types.proofs.Common.{cases_eq, cases_order, none-some, same_Some, slice_get_within, slice_get-get_or, get_or_from_slice_get}
-use Rattle.fs_types.proofs.Common.{length-map, length_push, get_or-map, get_or_append_left, All-from_recursion, recursion_from_All}
-use Rattle.fs_types.proofs.Common.{All-take, All-push, All-filter, filter_passes, length-range_with_len, get_or-range_with_len}
-use Rattle.fs_types.proofs.Common.{AllPairs-filter, sum_by-take-le}
+use Rattle.fs_types.proofs.Common.{common_steps, ◌≡◌, ℕ, zero, suc, ◌+◌, ◌≤◌, ◌<◌, Bool, true, false, List, [], ◌∷◌, ◌++◌, map, length}
+use Rattle.fs_types.proofs.Common.{take, get_or, slice_get, count_by, cond, Option, Some, None, IsSome, is_some, ◌⊎◌, inl, inr, true≢false}
+use Rattle.fs_types.proofs.Common.{refl, sym, ap, ◌∙◌, subst, subst₂, take-take, All, arith, AllByRecursion, filter, range_with_len}
+use Rattle.fs_types.proofs.Common.{cond_both, cond-true, cases_eq, cases_order, none-some, same_Some, slice_get_within, slice_get-get_or}
+use Rattle.fs_types.proofs.Common.{get_or_from_slice_get, length-map, length_push, get_or-map, get_or_append_left, All-from_recursion}
+use Rattle.fs_types.proofs.Common.{recursion_from_All, All-take, All-push, All-filter, filter_passes, length-range_with_len}
+use Rattle.fs_types.proofs.Common.{get_or-range_with_len, AllPairs-filter, sum_by-take-le}
 
 -- ---- options
 

@@ -1,7 +1,6 @@
 -- A client's program: its lines rise, and each of the client's operations stands in it.
-use Rattle.fs_types.proofs.Common.{common_steps}
-use Rattle.fs_types.proofs.Common.{arith}
-use Rattle.fs_types.proofs.Common.{◌≡◌, ℕ, true, length, Option, Some, None, true≢false, eqb-true, refl, sym, ap, ◌∙◌, slice_get, eq-eqb}
+use Rattle.fs_types.proofs.Common.{common_steps, arith, ◌≡◌, ℕ, true, length, Option, Some, None, true≢false, eqb-true, refl, sym}
+use Rattle.fs_types.proofs.Common.{slice_get, eq-eqb}
 use Rattle.fs_script.specs.Vocabulary.{OpLine, Job, op_at, is_of_rank, program}
 use Rattle.fs_script.proofs.Jobs.{op_at-within}
 use Rattle.fs_script.proofs.PlainLists.{passes, passing-place}

@@ -1,14 +1,13 @@
 -- A job stays legal so far as its next answer comes: one that commits nothing, or one whose line comes to the end of its path's journal.
-use Rattle.fs_types.proofs.Common.{common_steps}
-use Rattle.fs_types.proofs.Common.{◌≡◌, ◌≢◌, ℕ, suc, ◌≤◌, true, List, [], ◌∷◌, ◌++◌, length, Some, None, is_some, bytes_eq, true≢false}
-use Rattle.fs_types.proofs.Common.{refl, sym, ap, ◌∙◌, subst, inl, inr, arith, cases_eq, cases_Bool, cond-true, cond-false}
-use Rattle.fs_types.proofs.Common.{false_from_ne_true, none-some, same_Some, bytes_eq-Decides}
+use Rattle.fs_types.proofs.Common.{common_steps, ◌≡◌, ◌≢◌, ℕ, suc, ◌≤◌, true, List, [], ◌∷◌, ◌++◌, length, Some, None, is_some, bytes_eq}
+use Rattle.fs_types.proofs.Common.{true≢false, sym, ap, ◌∙◌, subst, inl, inr, arith, cases_Bool, cond-true, cond-false, false_from_ne_true}
+use Rattle.fs_types.proofs.Common.{same_Some, bytes_eq-Decides}
 use Rattle.fs_script.specs.Vocabulary.{Answer, OpLine, Job, op_at, rank_in, phase, Answering, pending, pending_at, front, is_enabled, state}
-use Rattle.fs_script.specs.Vocabulary.{Fits, commit_by, commit_in, committed, enabled_in, IsLegalJournal, AddsAnswer, IsOfNoEarlierPhase}
-use Rattle.fs_script.specs.Vocabulary.{AllFit, Journals, IsLegalSoFar, IsNextAnswer, Pushes}
+use Rattle.fs_script.specs.Vocabulary.{Fits, commit_by, committed, enabled_in, IsLegalJournal, AddsAnswer, IsOfNoEarlierPhase, AllFit}
+use Rattle.fs_script.specs.Vocabulary.{Journals, IsLegalSoFar, IsNextAnswer, Pushes}
 use Rattle.fs_script.proofs.FitsGrows.{Fits-agree, Fits-grows}
 use Rattle.fs_script.proofs.JournalGrows.{pending_at-next, AgreeBefore-next, AgreeBefore-answered, pending_at-in_journal}
-use Rattle.fs_script.proofs.JournalGrows.{answered-in_journal, IsLegalJournal-none, IsLegalJournal-kept, IsLegalJournal-commit}
+use Rattle.fs_script.proofs.JournalGrows.{answered-in_journal, IsLegalJournal-kept, IsLegalJournal-commit}
 use Rattle.fs_script.proofs.InReach.{front-le-length_fit}
 use Rattle.fs_script.proofs.PlainLists.{AllByRecursion-from_get, AllByRecursion-push}
 

@@ -1,6 +1,5 @@
 -- The file after some lines of a journal: as the journal grows at its end, and as answers come that change nothing pending at its lines.
-use Rattle.fs_types.proofs.Common.{common_steps}
-use Rattle.fs_types.proofs.Common.{◌≡◌, ℕ, suc, ◌≤◌, List, [], ◌∷◌, ◌++◌, length, take, None, refl, sym, ap, ◌∙◌, take_all, arith}
+use Rattle.fs_types.proofs.Common.{common_steps, ◌≡◌, ℕ, suc, ◌≤◌, List, [], ◌∷◌, ◌++◌, length, take, None, refl, ap, ◌∙◌, arith}
 use Rattle.fs_types.proofs.Common.{take-append-le, length_push}
 use Rattle.fs_script.specs.Vocabulary.{File, written, Job, Cells, offset, Answering, pending_at, put_lines, effect, after_all, state_in}
 use Rattle.fs_script.specs.Vocabulary.{SamePending}

@@ -1,7 +1,6 @@
 -- Texts that are cut at a byte: each part is of bytes above it.
-use Rattle.fs_types.proofs.Common.{common_steps}
-use Rattle.fs_types.proofs.Common.{◌≡◌, ℕ, ◌+◌, ◌^◌, ◌/◌, ◌%◌, ◌<◌, ◌≤◌, ◌==◌, true, false, ◌&&◌, List, [], ◌∷◌, ◌++◌, Some, slice_index}
-use Rattle.fs_types.proofs.Common.{refl, ◌∙◌, arith, All, nat_lt, list_all, slice_split, decimal, and_from, eq-eqb, nat_tests}
+use Rattle.fs_types.proofs.Common.{common_steps, ◌≡◌, ℕ, ◌+◌, ◌^◌, ◌/◌, ◌%◌, ◌<◌, ◌≤◌, ◌==◌, true, false, ◌&&◌, List, [], ◌∷◌, ◌++◌, Some}
+use Rattle.fs_types.proofs.Common.{slice_index, refl, ◌∙◌, arith, All, nat_lt, list_all, slice_split, decimal, and_from, eq-eqb, nat_tests}
 use Rattle.fs_types.proofs.Common.{decimal_by_steps, All-weaker, list_all-append, AllPass-from_list_all, list_all-from_AllPass}
 use Rattle.fs_types.proofs.Common.{slice_split_at, slice_split_none}
 use Rattle.hex.specs.Hex.{encode_lower, encode_with, hex_digit_value, lower_digits}

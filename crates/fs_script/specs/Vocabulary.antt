@@ -7,7 +7,7 @@ pub use Rattle.fs_types.specs.PlainFile.{File, written, is_open_to_change, is_fr
 pub use Rattle.fs_types.specs.declared.answer.Answer.{Answer}
 pub use Rattle.fs_types.specs.declared.answer.Body.{Body}
 pub use Rattle.fs_types.specs.declared.file_state.FileState.{FileState}
-pub use Rattle.fs_types.specs.declared.limits.TheConstants.{HEX_LIMIT, LONGEST_FILE}
+pub use Rattle.fs_types.specs.declared.limits.TheConstants.{LONGEST_FILE}
 pub use Rattle.fs_script.specs.AnswerKinds.{version_of, done_at}
 pub use Rattle.fs_script.specs.Effect.{state, put_lines, effect, after_all, state_in, is_enabled, effect_in, makes, effect_of}
 pub use Rattle.fs_script.specs.Fits.{Fits, AreTold, LineView, line_view, Accepts, ShowsAsked, body_of, IsInTable, IsNoLater, IsInReach}

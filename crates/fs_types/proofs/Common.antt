@@ -3,16 +3,16 @@ pub use Rattle.std.proofs.Common.{◌≡◌, [], vec_len, arith, None, ap, ◌-�
 pub use Rattle.std.proofs.Common.{ltb, leb, List, ◌∷◌, ◌++◌, take, drop, replicate, get_or, ◌∙◌, inl, inr, All, ◌&&◌, Option, Some, codes}
 pub use Rattle.std.proofs.Common.{◌≢◌, set, sym, subst, nat_le, tests, ◌==◌, Bool, true, false, nat_eq, not, bytes_eq, if◌then◌else◌, ◌⊎◌}
 pub use Rattle.std.proofs.Common.{Ok, Contains, slice_get, Result, slice_index, ◌^◌, map, flat_map, decimal, IsSome, is_some}
-pub use Rattle.std.proofs.Common.{slice_index_or, w32, true≢false, count_by, subst₂, take-take, filter, take_all, Bor, option_copied}
-pub use Rattle.std.proofs.Common.{Ordering, Less, Equal, Greater, nat_cmp, is_lt, is_eq, ◌/◌, ◌%◌, nat_lt, IsTrue, IsNone, IfSome}
-pub use Rattle.std.proofs.Common.{MatchBool, Err, append_assoc, position, le-ltb, ◌*◌, lit≤, add-one, ltb-true, ltb-false, ◌||◌, le-leb}
-pub use Rattle.std.proofs.Common.{IfNone, zip, Vec, option_map, sum_by, zero-add, fold, filter_map, Global, vec_capacity, slice_set}
-pub use Rattle.std.proofs.Common.{unwrap_or, IsSorted, IsPermutation, IfOk, OnOk}
+pub use Rattle.std.proofs.Common.{slice_index_or, w32, true≢false, count_by, subst₂, take-take, filter, Bor, option_copied, Ordering, Less}
+pub use Rattle.std.proofs.Common.{Equal, Greater, nat_cmp, is_lt, is_eq, ◌/◌, ◌%◌, nat_lt, IsTrue, IsNone, IfSome, MatchBool, Err}
+pub use Rattle.std.proofs.Common.{append_assoc, position, le-ltb, ◌*◌, lit≤, add-one, ltb-true, ltb-false, ◌||◌, le-leb, IfNone, zip, Vec}
+pub use Rattle.std.proofs.Common.{option_map, sum_by, zero-add, fold, filter_map, Global, vec_capacity, slice_set, unwrap_or, IsSorted}
+pub use Rattle.std.proofs.Common.{IsPermutation, IfOk, OnOk}
 pub use Rattle.std.proofs.Math.Nat.{div-le_self}
 pub use Rattle.std.proofs.Math.Seq.{map-set_same}
 pub use Rattle.std.proofs.lemmas.Bool.{cases_lt, cond_both, leb-true, and_parts, and_from, eqb-false, cond-true, cases_eq, cases_order}
-pub use Rattle.std.proofs.lemmas.Bool.{eqb-true, ne_eqb, cases_Bool, cond-false, false_from_ne_true, eq-eqb, false≢true, OnTrue_from}
-pub use Rattle.std.proofs.lemmas.Bool.{or_cases, lt-leb, or_left, or_right, lt-ltb, and_right}
+pub use Rattle.std.proofs.lemmas.Bool.{eqb-true, ne_eqb, cases_Bool, cond-false, false_from_ne_true, eq-eqb, false≢true, or_cases, lt-leb}
+pub use Rattle.std.proofs.lemmas.Bool.{or_left, or_right, lt-ltb, and_right}
 pub use Rattle.std.proofs.lemmas.Bool.Decides.{nat_tests, Decides-eqb}
 pub use Rattle.std.proofs.lemmas.Cmp.{nat_list_cmp_total, nat_list_eq_equiv, on_total, tied_itself}
 pub use Rattle.std.proofs.lemmas.Fmt.{decimal_is_IsNumeral, decimal_by_steps}
@@ -33,7 +33,7 @@ pub use Rattle.std.proofs.lemmas.List.Edits.{map_over_more}
 pub use Rattle.std.proofs.lemmas.List.Elements.{All-append, All-take, All-drop, All-replicate, All-nil, All-cons, All-weaker, All-head}
 pub use Rattle.std.proofs.lemmas.List.Elements.{All-tail, All-from_recursion, recursion_from_All, All-push, All-filter, filter_passes}
 pub use Rattle.std.proofs.lemmas.List.Elements.{All-contains, All-contains_itself, Contains-append_left, Contains-push, All-map}
-pub use Rattle.std.proofs.lemmas.List.Elements.{filter-append, filter_agree, Contains-push_cases, Contains-append_right}
+pub use Rattle.std.proofs.lemmas.List.Elements.{filter-append, filter_agree, Contains-append_right}
 pub use Rattle.std.proofs.lemmas.List.Folds.{list_all-append}
 pub use Rattle.std.proofs.lemmas.List.FromFn.{length-range_with_len, get_or-range_with_len, map-range_with_len_more}
 pub use Rattle.std.proofs.lemmas.List.FromFn.{get_or-map-range_with_len, length-map-range_with_len, fill_by_all}
@@ -62,7 +62,7 @@ pub use Rattle.std.specs.Cmp.Lexicographic.{slice_cmp, pointwise, lists_ties}
 pub use Rattle.std.specs.Int.{byte_at, bytes_low_first, to_le_bytes, from_bool}
 pub use Rattle.std.specs.List.{list_all, starts_with, join_with_byte, AllByRecursion, range_with_len, IsDistinct, slice_split}
 pub use Rattle.std.specs.List.{position_or_len, reduce, cons_option, list_any, prefix_len}
-pub use Rattle.std.specs.Ordering.{eq_by_cmp, ordering_reverse}
+pub use Rattle.std.specs.Ordering.{eq_by_cmp}
 pub use Rattle.std.specs.Prelude.{⊤}
 pub use Rattle.std.specs.Result.{result_unwrap_or}
 pub use Rattle.std.specs.Slice.{IsItemAt}

@@ -1,11 +1,10 @@
 -- The bytes that extents make, one after the other, and at each place.
-use Rattle.fs_types.proofs.Common.{common_steps}
-use Rattle.fs_types.proofs.Common.{◌≡◌, ℕ, ◌+◌, ◌-◌, ◌<◌, ◌≤◌, max, min, cond, ltb, leb, List, [], ◌∷◌, ◌++◌, length, take, drop, get_or}
-use Rattle.fs_types.proofs.Common.{sym, ap, subst, ◌∙◌, arith, inl, inr, ◌&&◌, cases_lt, nat_tests, All-from_recursion, length-take-le}
-use Rattle.fs_types.proofs.Common.{length-drop, get_or_append_left, get_or-append_right, get_or-take, get_or-drop, take_more, map_push}
-use Rattle.fs_script.specs.Vocabulary.{LONGEST_FILE, put, Job, payload, offset, bytes_of, put_lines}
-use Rattle.core_machine.specs.Vocabulary.{Extent, IsExtent, AreExtents, lines_of_extents, bytes_of_extents, byte_over}
-use borrow.Rule.Slice.PartMut.{put_mid, post_of}
+use Rattle.fs_types.proofs.Common.{common_steps, ◌≡◌, ℕ, ◌+◌, ◌-◌, ◌<◌, ◌≤◌, max, min, cond, ltb, leb, List, [], ◌∷◌, ◌++◌, length, take}
+use Rattle.fs_types.proofs.Common.{drop, get_or, sym, ap, subst, ◌∙◌, arith, inl, inr, ◌&&◌, cases_lt, nat_tests, All-from_recursion}
+use Rattle.fs_types.proofs.Common.{length-take-le, length-drop, get_or-take, get_or-drop, take_more, map_push}
+use Rattle.fs_script.specs.Vocabulary.{put, Job, payload}
+use Rattle.core_machine.specs.Vocabulary.{Extent, IsExtent, AreExtents, bytes_of_extents, byte_over}
+use borrow.Rule.Slice.PartMut.{put_mid}
 use Rattle.fs_types.proofs.CallerLemmas.{length-put, get_or-put}
 use Rattle.fs_script.proofs.CallerLemmas.{put_lines-append}
 

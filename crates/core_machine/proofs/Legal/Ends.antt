@@ -1,15 +1,14 @@
 -- The end of a run: where no client is ready and memory didn't run out, each operation has an
 -- answer, and the report is legal.
-use Rattle.fs_types.proofs.Common.{common_steps}
-use Rattle.fs_types.proofs.Common.{◌≡◌, ℕ, zero, suc, ◌+◌, ◌≤◌, ◌<◌, true, false, List, [], length, map, Some, None, IsSome, is_some}
-use Rattle.fs_types.proofs.Common.{slice_get, slice_index, Contains, ltb-false, le-ltb, le-leb, true≢false, refl, sym, ap, ◌∙◌, subst, inl}
-use Rattle.fs_types.proofs.Common.{inr, arith, or_left, or_right, cases_Bool, cases_lt, false_from_ne_true, All-map, recursion_from_All}
-use Rattle.fs_types.proofs.Common.{slice_get-get_or, slice_get_within, map-map}
+use Rattle.fs_types.proofs.Common.{common_steps, ◌≡◌, ℕ, zero, suc, ◌+◌, ◌≤◌, ◌<◌, true, false, List, [], length, map, Some, None, IsSome}
+use Rattle.fs_types.proofs.Common.{is_some, slice_get, slice_index, Contains, ltb-false, le-ltb, le-leb, true≢false, refl, sym, ap, ◌∙◌}
+use Rattle.fs_types.proofs.Common.{subst, inl, inr, arith, or_left, or_right, cases_Bool, cases_lt, false_from_ne_true, All-map}
+use Rattle.fs_types.proofs.Common.{recursion_from_All, slice_get-get_or, slice_get_within, map-map}
 use Rattle.fs_script.specs.Vocabulary.{FileState, Job, op_at, op_lines, is_of_rank, program, Answering, file_state_of, IsLegal}
 use Rattle.core_machine.specs.Vocabulary.{OpLine, Moment, printed, client_of, file_now, has_begun, may_come, next_line, ready, report_of}
 use Rattle.core_machine.specs.Vocabulary.{IsAnsweredUpTo, IsLegalMoment}
-use Rattle.fs_script.proofs.CallerLemmas.{rises_past, none_from-is_some, lines-passing, IsLegal-finished, phase-rises, some_of}
-use Rattle.fs_script.proofs.CallerLemmas.{op_at-within, passing-rise, program-place, program-op}
+use Rattle.fs_script.proofs.CallerLemmas.{rises_past, lines-passing, IsLegal-finished, phase-rises, some_of, op_at-within, passing-rise}
+use Rattle.fs_script.proofs.CallerLemmas.{program-place, program-op}
 use Rattle.core_machine.proofs.Legal.Phases.{Contains-passing, lets_begin, has_begun-from}
 
 -- the place of a client whose lines before the one at i have answers, but not that one

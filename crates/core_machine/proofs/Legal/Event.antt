@@ -1,8 +1,7 @@
 -- The line that comes next, and when its event keeps its path legal: what the events of all
 -- operations share.
-use Rattle.fs_types.proofs.Common.{common_steps}
-use Rattle.fs_types.proofs.Common.{◌≡◌, ℕ, suc, ◌+◌, ◌≤◌, Bool, true, false, not, cond, List, [], ◌∷◌, ◌++◌, length, Option, Some, None}
-use Rattle.fs_types.proofs.Common.{IfSome, IsTrue, true≢false, add-one, refl, sym, ap, arith, cond_both, OnTrue_from}
+use Rattle.fs_types.proofs.Common.{common_steps, ◌≡◌, ℕ, suc, ◌+◌, ◌≤◌, Bool, true, false, not, cond, List, [], ◌∷◌, ◌++◌, length, Option}
+use Rattle.fs_types.proofs.Common.{Some, None, IfSome, IsTrue, add-one, refl, arith, cond_both}
 use Rattle.fs_script.specs.Vocabulary.{Answer, Job, op_at, needs_open, commits, version_of, done_at, Answering, is_enabled, IsInReach}
 use Rattle.fs_script.specs.Vocabulary.{AreTold, AgreesWithOpen, LineView, line_view, IsInTable, commit_of, IsLegalJournal, AllFit}
 use Rattle.fs_script.specs.Vocabulary.{ComesNext, IsOfNoEarlierPhase}

@@ -1,8 +1,7 @@
 -- The journals with a line at the end of one path's: that path's journal has it, and every other
 -- stays.
-use Rattle.fs_types.proofs.Common.{common_steps}
-use Rattle.fs_types.proofs.Common.{◌≡◌, ◌≢◌, ℕ, false, List, [], ◌∷◌, ◌++◌, map, bytes_eq, Contains, true≢false, refl, sym, ap, ◌∙◌, subst}
-use Rattle.fs_types.proofs.Common.{inl, inr, arith, cases_Bool, Contains-tail, bytes_eq-Decides}
+use Rattle.fs_types.proofs.Common.{common_steps, ◌≡◌, ◌≢◌, ℕ, false, List, [], ◌∷◌, ◌++◌, map, bytes_eq, Contains, true≢false, refl, sym}
+use Rattle.fs_types.proofs.Common.{ap, ◌∙◌, subst, inl, inr, arith, cases_Bool, Contains-tail, bytes_eq-Decides}
 use Rattle.fs_script.specs.Vocabulary.{journal_of, Pushes}
 use Rattle.core_machine.specs.Vocabulary.{with_entry}
 use Rattle.core_machine.proofs.Paths.{same_bytes, other_bytes}

@@ -1,11 +1,9 @@
 -- A run: its first moment is legal, and each of its steps keeps it so. So what it reports at its
 -- end is legal.
-use Rattle.fs_types.proofs.Common.{common_steps}
-use Rattle.fs_types.proofs.Common.{◌≡◌, ℕ, false, List, [], ◌∷◌, length, None, is_some, slice_index_or, bytes_eq, le-ltb, true≢false, refl}
-use Rattle.fs_types.proofs.Common.{sym, ap, ◌∙◌, subst, arith, AllByRecursion, cond_both, length-replicate, get_or-replicate}
-use Rattle.fs_script.specs.Vocabulary.{answer_at, IsRising, Job, journal_of, IsLegal}
-use Rattle.core_machine.specs.Vocabulary.{Moment, fresh_client, printed, answering, client_of, journal, ready, IsFirst, report_of, Turn}
-use Rattle.core_machine.specs.Vocabulary.{step, HasClients, IsLegalMoment, Reaches}
+use Rattle.fs_types.proofs.Common.{common_steps, ◌≡◌, ℕ, false, List, [], ◌∷◌, length, bytes_eq, refl, sym, ap, ◌∙◌, subst, arith}
+use Rattle.fs_types.proofs.Common.{AllByRecursion, cond_both, length-replicate, get_or-replicate}
+use Rattle.fs_script.specs.Vocabulary.{Job, journal_of, IsLegal}
+use Rattle.core_machine.specs.Vocabulary.{Moment, journal, ready, IsFirst, report_of, Turn, step, HasClients, IsLegalMoment, Reaches}
 use Rattle.fs_script.proofs.CallerLemmas.{IsLegalSoFar-none}
 use Rattle.core_machine.proofs.Legal.Turns.{IsTurn-from_ready, step-is}
 use Rattle.core_machine.proofs.Legal.Steps.{step-legal}
@@ -18,7 +16,16 @@ empty-journals [] p all = refl
 empty-journals (j ∷ js) p all = cond_both (bytes_eq j.0 p) _ _ (λ J. J ≡ []) (λ _. all.0) (λ _. empty-journals js p all.1)
 
 first-legal : (told : List ℕ) {m : Moment} → HasClients m.job → IsFirst m.job m → IsLegalMoment told m
-first-legal told {m} clients first = grind (arith, common_steps, length, length-replicate, get_or-replicate, IsLegalSoFar-none, journal, empty-journals)
+first-legal told {m} clients first = grind (
+  arith,
+  common_steps,
+  length,
+  length-replicate,
+  get_or-replicate,
+  IsLegalSoFar-none,
+  journal,
+  empty-journals,
+)
 
 -- ---- the run
 

@@ -1,12 +1,10 @@
 -- One event keeps a moment legal: each invariant after it, by whether it brings an answer.
-use Rattle.fs_types.proofs.Common.{common_steps}
-use Rattle.fs_types.proofs.Common.{◌≡◌, ◌≢◌, ℕ, ◌<◌, Bool, true, false, cond, List, length, map, Option, Some, None, IsSome, is_some}
-use Rattle.fs_types.proofs.Common.{Contains, refl, sym, ap, ◌∙◌, subst, subst₂, inl, inr, arith, cases_eq, get_or-set_same}
-use Rattle.fs_types.proofs.Common.{get_or-set_other, length-set}
+use Rattle.fs_types.proofs.Common.{common_steps, ◌≡◌, ◌≢◌, ℕ, ◌<◌, Bool, true, false, cond, List, length, map, Option, Some, None, IsSome}
+use Rattle.fs_types.proofs.Common.{is_some, Contains, refl, sym, ap, ◌∙◌, subst, inl, inr, arith, cases_eq, length-set}
 use Rattle.fs_script.specs.Vocabulary.{Answer, answer_at, put_answer, op_at, phase, Answering, pending, commit_of, commit_by, journal_of}
 use Rattle.fs_script.specs.Vocabulary.{ArePaths, AddsAnswer, IsLegalSoFar, IsNextAnswer}
-use Rattle.core_machine.specs.Vocabulary.{Doing, Client, Moment, fresh_client, printed, answering, client_of, with_entry, ready, Event}
-use Rattle.core_machine.specs.Vocabulary.{Turn, event_at, after_turn, after_event, step, IsAnsweredUpTo, IsLegalMoment}
+use Rattle.core_machine.specs.Vocabulary.{Doing, Client, Moment, printed, answering, client_of, with_entry, ready, Event, Turn, event_at}
+use Rattle.core_machine.specs.Vocabulary.{after_turn, after_event, step, IsAnsweredUpTo, IsLegalMoment}
 use Rattle.fs_types.proofs.CallerLemmas.{IsRisingFrom-put_answer}
 use Rattle.fs_script.proofs.CallerLemmas.{pending-agree, AddsAnswer-put, AgreeBefore-next, IsLegalSoFar-kept, IsLegalSoFar-commit}
 use Rattle.core_machine.proofs.Legal.Event.{now, IsLegalAnswer, IsLegalOutcome}
@@ -14,7 +12,7 @@ use Rattle.core_machine.proofs.Legal.Events.{event_of-legal}
 use Rattle.core_machine.proofs.Legal.Journals.{paths-with_entry, Pushes-with_entry}
 use Rattle.core_machine.proofs.Legal.Phases.{begun-answered}
 use Rattle.core_machine.proofs.Places.{upto-own, upto-other}
-use Rattle.core_machine.proofs.Legal.Turns.{IsTurn, IsTurn-from_ready, step-is, answered_up_to, stands, comes_next, no_later_phase, coming}
+use Rattle.core_machine.proofs.Legal.Turns.{IsTurn, IsTurn-from_ready, step-is, stands, comes_next, no_later_phase, coming}
 
 -- ---- the clients after any event
 

@@ -1,8 +1,6 @@
 -- A client's turn: the line that comes next, and what is known as it comes.
-use Rattle.fs_types.proofs.Common.{common_steps}
-use Rattle.fs_types.proofs.Common.{◌≡◌, ℕ, ◌≤◌, ◌<◌, true, List, [], Option, Some, None, IsSome, is_some, Contains, true≢false, refl, sym}
-use Rattle.fs_types.proofs.Common.{ap, ◌∙◌, subst, inl, inr, arith, filter, range_with_len, cond_both, cases_lt, All-contains}
-use Rattle.fs_types.proofs.Common.{filter_passes, same_Some}
+use Rattle.fs_types.proofs.Common.{common_steps, ◌≡◌, ℕ, ◌≤◌, ◌<◌, true, List, Option, Some, None, IsSome, is_some, Contains, true≢false}
+use Rattle.fs_types.proofs.Common.{refl, sym, ap, ◌∙◌, subst, inl, inr, arith, cases_lt, All-contains, filter_passes, same_Some}
 use Rattle.fs_script.specs.Vocabulary.{op_at, phase, rank_in, ComesNext}
 use Rattle.core_machine.specs.Vocabulary.{OpLine, Moment, printed, answering, client_of, journal, has_begun, may_come, next_line, ready}
 use Rattle.core_machine.specs.Vocabulary.{after_event, event_at, step_line, step_at, step, IsAnsweredUpTo, IsLegalMoment}

@@ -1,9 +1,8 @@
 -- The places after a client's next line was answered: the lines that come next, and who goes.
-use Rattle.fs_types.proofs.Common.{common_steps}
-use Rattle.fs_types.proofs.Common.{◌≡◌, ℕ, ◌+◌, ◌<◌, ◌≤◌, Bool, true, false, List, [], ◌∷◌, cond, not, length, filter, Some, slice_get}
-use Rattle.fs_types.proofs.Common.{slice_index, refl, sym, ap, ◌∙◌, inl, inr, arith, ◌==◌, ◌&&◌, range_with_len, and_right, cases_eq}
-use Rattle.fs_types.proofs.Common.{eq-eqb, ne_eqb, get_or-set_same, get_or-set_other, filter_agree}
-use Rattle.fs_script.specs.Vocabulary.{op_at, is_of_rank, phase, program}
+use Rattle.fs_types.proofs.Common.{common_steps, ◌≡◌, ℕ, ◌+◌, ◌<◌, ◌≤◌, Bool, true, false, List, [], ◌∷◌, cond, not, length, filter, Some}
+use Rattle.fs_types.proofs.Common.{slice_get, slice_index, refl, sym, ap, ◌∙◌, inl, inr, arith, ◌==◌, ◌&&◌, range_with_len, and_right}
+use Rattle.fs_types.proofs.Common.{cases_eq, eq-eqb, ne_eqb, get_or-set_same, get_or-set_other, filter_agree}
+use Rattle.fs_script.specs.Vocabulary.{phase, program}
 use Rattle.core_machine.specs.Vocabulary.{Places, next_in, is_of_phase, going, after_line, IsInPhase}
 use Rattle.fs_script.proofs.CallerLemmas.{phase-rises, passing-rise}
 use Rattle.core_machine.proofs.Programs.Going.{goes_in, Goes, goes_in-true}

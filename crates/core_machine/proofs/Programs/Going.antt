@@ -1,8 +1,7 @@
 -- Which clients go, and when the run is in a phase.
-use Rattle.fs_types.proofs.Common.{common_steps}
-use Rattle.fs_types.proofs.Common.{◌≡◌, ℕ, ◌+◌, ◌<◌, ◌≤◌, Bool, true, false, cond, List, [], ◌∷◌, ◌++◌, suc, zero-add, Option, Some, None}
-use Rattle.fs_types.proofs.Common.{slice_get, Contains, true≢false, eqb-true, refl, sym, ap, ◌∙◌, arith, filter, range_with_len, eq-eqb}
-use Rattle.fs_types.proofs.Common.{append-nil, filter-append, none-some, slice_get-get_or}
+use Rattle.fs_types.proofs.Common.{common_steps, ◌≡◌, ℕ, ◌+◌, ◌<◌, ◌≤◌, Bool, true, false, cond, List, [], ◌∷◌, ◌++◌, suc, zero-add, Option}
+use Rattle.fs_types.proofs.Common.{Some, None, slice_get, Contains, true≢false, eqb-true, refl, sym, ap, ◌∙◌, arith, filter, range_with_len}
+use Rattle.fs_types.proofs.Common.{eq-eqb, append-nil, filter-append, none-some, slice_get-get_or}
 use Rattle.fs_script.specs.Vocabulary.{Job, phase}
 use Rattle.core_machine.specs.Vocabulary.{Places, next_in, is_of_phase, going, IsInPhase}
 use Rattle.fs_script.proofs.CallerLemmas.{range-push, passes, passing-place}

@@ -1,8 +1,7 @@
 -- What is kept of the turns, where a client is ready and after its next line was answered.
-use Rattle.fs_types.proofs.Common.{common_steps}
-use Rattle.fs_types.proofs.Common.{◌≡◌, ℕ, ◌+◌, ◌<◌, ◌≤◌, true, false, List, [], not, length, map, filter, get_or, Vec, Global}
-use Rattle.fs_types.proofs.Common.{vec_capacity, Some, IsSome, is_some, slice_get, slice_index, Contains, refl, sym, ap, ◌∙◌, subst, inl}
-use Rattle.fs_types.proofs.Common.{inr, arith, ◌==◌, slice_set, map-set_same, cases_eq, length-map, map-set, get_or-set_same}
+use Rattle.fs_types.proofs.Common.{common_steps, ◌≡◌, ℕ, ◌+◌, ◌<◌, ◌≤◌, true, false, List, [], not, length, map, filter, get_or, Vec}
+use Rattle.fs_types.proofs.Common.{Global, vec_capacity, Some, IsSome, is_some, slice_get, slice_index, Contains, refl, sym, ap, ◌∙◌, subst}
+use Rattle.fs_types.proofs.Common.{inl, inr, arith, ◌==◌, slice_set, map-set_same, cases_eq, length-map, map-set, get_or-set_same}
 use Rattle.fs_types.proofs.Common.{get_or-set_other, same_Some, slice_get_read, slice_get_within}
 use Rattle.fs_script.specs.Vocabulary.{phase, program}
 use Rattle.core_machine.specs.Vocabulary.{Program, Inside, Places, next_in, is_of_phase, going, IsInPhase, IsLeast, next_of, next_phases}

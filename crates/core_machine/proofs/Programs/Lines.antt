@@ -1,9 +1,9 @@
 -- The lines of the clients' programs, as the lines of the script come one by one.
-use Rattle.fs_types.proofs.Common.{common_steps}
-use Rattle.fs_types.proofs.Common.{◌≡◌, ℕ, suc, ◌+◌, ◌-◌, ◌<◌, ◌≤◌, cond, List, [], ◌∷◌, ◌++◌, length, map, filter, get_or, set, replicate}
-use Rattle.fs_types.proofs.Common.{Option, Some, None, refl, sym, ap, ◌∙◌, inl, inr, arith, range_with_len, cases_eq, eq-eqb, ne_eqb}
-use Rattle.fs_types.proofs.Common.{length-replicate, get_or-replicate, get_or-map, map-set, length-set, get_or-set_same, get_or-set_other}
-use Rattle.fs_types.proofs.Common.{append-nil, filter-append, fill_by_all, get_or-map-range_with_len, length-map-range_with_len}
+use Rattle.fs_types.proofs.Common.{common_steps, ◌≡◌, ℕ, suc, ◌+◌, ◌-◌, ◌<◌, ◌≤◌, cond, List, [], ◌∷◌, ◌++◌, length, map, filter, get_or}
+use Rattle.fs_types.proofs.Common.{set, replicate, Option, Some, None, refl, sym, ap, ◌∙◌, inl, inr, arith, range_with_len, cases_eq}
+use Rattle.fs_types.proofs.Common.{eq-eqb, ne_eqb, length-replicate, get_or-replicate, get_or-map, map-set, length-set, get_or-set_same}
+use Rattle.fs_types.proofs.Common.{get_or-set_other, append-nil, filter-append, fill_by_all, get_or-map-range_with_len}
+use Rattle.fs_types.proofs.Common.{length-map-range_with_len}
 use Rattle.fs_script.specs.Vocabulary.{Job, op_at, is_of_rank}
 use Rattle.core_machine.specs.Vocabulary.{OpLine, Program, with_program_line}
 use Rattle.fs_script.proofs.CallerLemmas.{range-push}

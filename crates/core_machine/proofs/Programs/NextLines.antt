@@ -1,9 +1,8 @@
 -- What the programs that are kept say of the lines that come next, and of their phases.
-use Rattle.fs_types.proofs.Common.{common_steps}
-use Rattle.fs_types.proofs.Common.{◌≡◌, ℕ, ◌<◌, ◌≤◌, List, [], length, map, get_or, Option, Some, None, slice_get, slice_index, Contains}
-use Rattle.fs_types.proofs.Common.{refl, sym, ap, ◌∙◌, subst, zero-add, inl, inr, arith, IfNone, IfSome, unwrap_or, range_with_len}
-use Rattle.fs_types.proofs.Common.{option_map, length-map, All-contains, length-map-range_with_len, same_Some, slice_get-map}
-use Rattle.fs_types.proofs.Common.{slice_get_within, slice_get_cases, slice_get_read, get_or_from_slice_get}
+use Rattle.fs_types.proofs.Common.{common_steps, ◌≡◌, ℕ, ◌<◌, ◌≤◌, List, [], length, map, get_or, Option, Some, None, slice_get}
+use Rattle.fs_types.proofs.Common.{slice_index, Contains, refl, sym, ap, ◌∙◌, zero-add, inl, inr, arith, IfNone, IfSome, unwrap_or}
+use Rattle.fs_types.proofs.Common.{range_with_len, option_map, length-map, All-contains, length-map-range_with_len, same_Some}
+use Rattle.fs_types.proofs.Common.{slice_get-map, slice_get_within, slice_get_cases, slice_get_read, get_or_from_slice_get}
 use Rattle.fs_script.specs.Vocabulary.{Job, phase, program}
 use Rattle.core_machine.specs.Vocabulary.{Program, HasClients, Places, next_in, going, IsInPhase, IsLeast, next_of, next_phases}
 use Rattle.core_machine.specs.Vocabulary.{ArePrograms, places_of}

@@ -1,7 +1,6 @@
 -- What an answer to the line that comes next changes of what its client knows, as seen from the script's end.
-use Rattle.fs_types.proofs.Common.{common_steps}
-use Rattle.fs_types.proofs.Common.{◌≡◌, ℕ, zero, suc, ◌≤◌, List, Option, Some, None, IsSome, is_some, true≢false, refl, sym, ap, ◌∙◌, inl}
-use Rattle.fs_types.proofs.Common.{inr, arith, cases_lt, AllByRecursion}
+use Rattle.fs_types.proofs.Common.{common_steps, ◌≡◌, ℕ, zero, suc, ◌≤◌, List, Option, Some, None, IsSome, refl, ap, ◌∙◌, inl, inr, arith}
+use Rattle.fs_types.proofs.Common.{cases_lt, AllByRecursion}
 use Rattle.fs_script.specs.Vocabulary.{Answer, Job, own_at, rank_at, bytes_of, Answering, one_more, over_answers, state, AddsAnswer}
 use Rattle.fs_script.specs.Vocabulary.{pending_at, ComesNext, AgreeBefore, SamePending}
 use Rattle.core_machine.specs.Vocabulary.{Op}

@@ -1,8 +1,8 @@
 -- What is kept before the first event, and that the moment it stands for is the first.
-use Rattle.fs_types.proofs.Common.{common_steps}
-use Rattle.fs_types.proofs.Common.{◌≡◌, ℕ, zero, suc, ◌+◌, false, List, [], ◌∷◌, length, map, is_some, slice_index, All, true≢false, refl}
-use Rattle.fs_types.proofs.Common.{sym, ap, subst, ◌∙◌, arith, zip, replicate, AllByRecursion, le-ltb, length-map, length-replicate}
-use Rattle.fs_types.proofs.Common.{get_or-replicate, recursion_from_All, firsts-zip, slice_get_within, get_or_from_slice_get}
+use Rattle.fs_types.proofs.Common.{common_steps, ◌≡◌, ℕ, zero, suc, ◌+◌, false, List, [], ◌∷◌, length, map, is_some, slice_index, All}
+use Rattle.fs_types.proofs.Common.{true≢false, refl, sym, ap, subst, ◌∙◌, arith, zip, replicate, AllByRecursion, le-ltb, length-map}
+use Rattle.fs_types.proofs.Common.{length-replicate, get_or-replicate, recursion_from_All, firsts-zip, slice_get_within}
+use Rattle.fs_types.proofs.Common.{get_or_from_slice_get}
 use Rattle.fs_script.specs.Vocabulary.{Given, answer_at, Job, Answering, ArePaths}
 use Rattle.core_machine.specs.Vocabulary.{OwnedPath, ClientPath, PathState, IsFreshOwner, IsFreshClient, IsFreshPath, HasClients, IsFirst}
 use Rattle.core_machine.specs.Vocabulary.{Places, client_at, moment_of, Holds, Stands, StandsForOwner, StandsForClient, end_of}

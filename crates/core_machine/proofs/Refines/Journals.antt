@@ -1,8 +1,8 @@
 -- The journals that are kept, as one path's state is changed.
-use Rattle.fs_types.proofs.Common.{common_steps}
-use Rattle.fs_types.proofs.Common.{firsts-zip, length-map, ◌≡◌, ℕ, zero, suc, ◌<◌, Bool, true, false, cond, List, [], ◌∷◌, ◌++◌, length}
-use Rattle.fs_types.proofs.Common.{set, map, Some, refl, sym, ap, subst, ◌∙◌, arith, zip, slice_get, AllByRecursion, bytes_eq, nat_cmp}
-use Rattle.fs_types.proofs.Common.{is_lt, slice_cmp, option_map, map-set, set-get_or, same_Some, slice_get-map, get_or_from_slice_get}
+use Rattle.fs_types.proofs.Common.{common_steps, firsts-zip, length-map, ◌≡◌, ℕ, zero, suc, ◌<◌, Bool, true, false, cond, List, [], ◌∷◌}
+use Rattle.fs_types.proofs.Common.{◌++◌, length, set, map, Some, refl, sym, ap, subst, ◌∙◌, arith, zip, slice_get, AllByRecursion, bytes_eq}
+use Rattle.fs_types.proofs.Common.{nat_cmp, is_lt, slice_cmp, option_map, map-set, set-get_or, same_Some, slice_get-map}
+use Rattle.fs_types.proofs.Common.{get_or_from_slice_get}
 use Rattle.fs_script.specs.Vocabulary.{AreRising}
 use Rattle.core_machine.specs.Vocabulary.{PathState, with_entry, journals_of}
 use Rattle.core_machine.proofs.Paths.{not_among, same_bytes, other_bytes}

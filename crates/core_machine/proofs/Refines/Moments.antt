@@ -1,12 +1,10 @@
 -- The moment that is kept after a line was answered is the machine's next one.
-use Rattle.fs_types.proofs.Common.{common_steps}
-use Rattle.fs_types.proofs.Common.{arith}
 use Rattle.std.proofs.Math.ListN.{get_or-map}
-use Rattle.fs_types.proofs.Common.{◌≡◌, ℕ, ◌+◌, false, List, set, get_or, map, Some, slice_index, refl, sym, ap, ◌∙◌, slice_get, map-set}
+use Rattle.fs_types.proofs.Common.{common_steps, arith, ◌≡◌, ℕ, false, List, set, get_or, map, Some, slice_index, sym, ap, ◌∙◌, slice_get}
+use Rattle.fs_types.proofs.Common.{map-set}
 use Rattle.fs_script.specs.Vocabulary.{Answer, Given, put_answer, Job, program, journal_of}
 use Rattle.core_machine.specs.Vocabulary.{PathState, Client, Moment, fresh_client, client_of, next_line, Event, PathNow, event_of, event_at}
-use Rattle.core_machine.specs.Vocabulary.{with_answer, after_turn, after_event, step, step_at, step_line, path_now, kept_event, Places}
-use Rattle.core_machine.specs.Vocabulary.{client_at, journals_of, moment_of, after_line}
+use Rattle.core_machine.specs.Vocabulary.{after_turn, step, path_now, kept_event, Places, client_at, journals_of, moment_of, after_line}
 use Rattle.core_machine.proofs.Paths.{journal_of-zip}
 use Rattle.core_machine.proofs.Refines.Journals.{slice_get-map_some, journal_kept, journals_of-set}
 use Rattle.core_machine.proofs.Refines.Now.{kept_now-is}

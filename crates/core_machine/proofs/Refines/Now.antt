@@ -1,6 +1,5 @@
 -- What the event of a line sees is what is kept for its path and its client.
-use Rattle.fs_types.proofs.Common.{common_steps}
-use Rattle.fs_types.proofs.Common.{◌≡◌, ℕ, max, leb, refl, sym, ap, ◌∙◌, arith, nat_lt, count_by, cond_both, leb-true, nat_tests}
+use Rattle.fs_types.proofs.Common.{common_steps, ◌≡◌, ℕ, max, leb, refl, sym, ap, ◌∙◌, arith, nat_lt, count_by, cond_both}
 use Rattle.fs_script.specs.Vocabulary.{Job, phase, Answering, state, seen, front, of_earlier_phases}
 use Rattle.core_machine.specs.Vocabulary.{OpLine, Noted, OwnedPath, ClientPath, PathNow, known_of, kept_now, known_from, later_of}
 use Rattle.core_machine.specs.Vocabulary.{StandsForOwner, StandsForClient, end_of, path_now}

@@ -1,8 +1,7 @@
 -- The owner's part of a path after an event: of another path, and of the line's own.
-use Rattle.fs_types.proofs.Common.{common_steps}
-use Rattle.fs_types.proofs.Common.{◌≡◌, ℕ, ◌+◌, ◌≤◌, Bool, true, false, cond, List, [], ◌∷◌, ◌++◌, length, Option, Some, IsSome, is_some}
-use Rattle.fs_types.proofs.Common.{nat_lt, count_by, refl, sym, ap, ◌∙◌, subst, inl, inr, arith, le-ltb, AllByRecursion, cases_eq}
-use Rattle.fs_types.proofs.Common.{length_push, sum_by_push, count_by-le-length}
+use Rattle.fs_types.proofs.Common.{common_steps, ◌≡◌, ℕ, ◌+◌, ◌≤◌, Bool, true, false, cond, List, [], ◌∷◌, ◌++◌, length, Option, Some}
+use Rattle.fs_types.proofs.Common.{IsSome, is_some, nat_lt, count_by, refl, sym, ap, ◌∙◌, subst, arith, le-ltb, AllByRecursion, length_push}
+use Rattle.fs_types.proofs.Common.{sum_by_push, count_by-le-length}
 use Rattle.fs_script.specs.Vocabulary.{Answer, File, Job, op_at, phase, bytes_of, Answering, pending, pending_for, pending_at, effect_of}
 use Rattle.fs_script.specs.Vocabulary.{effect_in, state, AddsAnswer, ComesNext}
 use Rattle.core_machine.specs.Vocabulary.{OpLine, OwnedPath, ClientPath, known_of, AreSound, file_of, known_from, pending_lines, Follows}

@@ -1,7 +1,6 @@
 -- What is read of a path in what the core keeps: its journal and its file at the moment.
-use Rattle.fs_types.proofs.Common.{common_steps}
-use Rattle.fs_types.proofs.Common.{refl, slice_get_read, ◌≡◌, ℕ, List, [], length, map, get_or, Some, None, false, sym, ap, ◌∙◌, arith}
-use Rattle.fs_types.proofs.Common.{slice_get, Contains, slice_get_within}
+use Rattle.fs_types.proofs.Common.{common_steps, refl, slice_get_read, ◌≡◌, ℕ, List, [], length, map, get_or, Some, None, false, sym, ap}
+use Rattle.fs_types.proofs.Common.{◌∙◌, arith, slice_get, Contains, slice_get_within}
 use Rattle.fs_script.specs.Vocabulary.{Given, answer_at, Job, state, AreRising, journal_of}
 use Rattle.core_machine.specs.Vocabulary.{PathState, file_of, file_now, Places, journals_of, moment_of, Holds, Stands}
 use Rattle.core_machine.proofs.Paths.{journal_of-zip, journal_of-absent}

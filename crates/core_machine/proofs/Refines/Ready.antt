@@ -1,9 +1,8 @@
 -- The clients that may go by what the core keeps are those that are ready at the moment that it stands for.
-use Rattle.fs_types.proofs.Common.{common_steps}
-use Rattle.fs_types.proofs.Common.{◌≡◌, ℕ, zero, suc, ◌+◌, ◌≤◌, ◌<◌, Bool, true, false, cond, List, [], ◌∷◌, length, Option, Some, None}
-use Rattle.fs_types.proofs.Common.{is_some, slice_index, true≢false, refl, sym, ap, ◌∙◌, subst, inl, inr, arith, eq-eqb, filter, slice_get}
-use Rattle.fs_types.proofs.Common.{range_with_len, cases_Bool, cases_lt, false_from_ne_true, ltb-false, le-leb, or_left, or_right, ne_eqb}
-use Rattle.fs_types.proofs.Common.{none-some, same_Some, slice_get-get_or, slice_get_within}
+use Rattle.fs_types.proofs.Common.{common_steps, ◌≡◌, ℕ, zero, suc, ◌+◌, ◌≤◌, ◌<◌, Bool, true, false, cond, List, [], ◌∷◌, length, Option}
+use Rattle.fs_types.proofs.Common.{Some, None, is_some, slice_index, true≢false, refl, sym, ap, ◌∙◌, subst, inl, inr, arith, eq-eqb, filter}
+use Rattle.fs_types.proofs.Common.{slice_get, range_with_len, cases_Bool, cases_lt, false_from_ne_true, ltb-false, le-leb, or_left}
+use Rattle.fs_types.proofs.Common.{or_right, ne_eqb, none-some, same_Some, slice_get-get_or, slice_get_within}
 use Rattle.fs_script.specs.Vocabulary.{Given, answer_at, Job, op_at, is_of_rank, phase, program}
 use Rattle.core_machine.specs.Vocabulary.{OpLine, PathState, Moment, has_begun, may_come, next_line, ready, Places, IsInPhase, going}
 use Rattle.core_machine.specs.Vocabulary.{next_in, is_of_phase, moment_of, Holds}

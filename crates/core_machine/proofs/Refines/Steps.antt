@@ -1,9 +1,8 @@
 -- One event of the machine is one line answered by what the core keeps.
-use Rattle.fs_types.proofs.Common.{common_steps}
-use Rattle.fs_types.proofs.Common.{cond-false, false_from_ne_true, and_parts, eqb-true, ◌≡◌, ◌≢◌, ℕ, ◌+◌, ◌<◌, ◌≤◌, false, List, length}
-use Rattle.fs_types.proofs.Common.{set, slice_index, Some, None, IsSome, is_some, refl, sym, ap, subst, ◌∙◌, arith, inl, inr, nat_eq}
-use Rattle.fs_types.proofs.Common.{eq-eqb, ◌&&◌, slice_get, bytes_eq, cases_eq, length-set, get_or-set_same, get_or-set_other, same_Some}
-use Rattle.fs_types.proofs.Common.{slice_get_within, bytes_eq-Decides}
+use Rattle.fs_types.proofs.Common.{common_steps, cond-false, false_from_ne_true, and_parts, eqb-true, ◌≡◌, ◌≢◌, ℕ, ◌+◌, ◌<◌, ◌≤◌, false}
+use Rattle.fs_types.proofs.Common.{List, length, set, slice_index, Some, None, IsSome, is_some, refl, sym, ap, subst, ◌∙◌, arith, inl, inr}
+use Rattle.fs_types.proofs.Common.{eq-eqb, slice_get, cases_eq, length-set, get_or-set_same, get_or-set_other, same_Some, slice_get_within}
+use Rattle.fs_types.proofs.Common.{bytes_eq-Decides}
 use Rattle.fs_script.specs.Vocabulary.{Answer, Given, answer_at, put_answer, Job, op_at, own_op, rank_in, phase, program, Answering}
 use Rattle.fs_script.specs.Vocabulary.{pending}
 use Rattle.core_machine.specs.Vocabulary.{OpLine, PathState, ClientPath, AreSound, pending_lines, Follows, kept_event, Places}

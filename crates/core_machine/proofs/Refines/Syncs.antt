@@ -1,10 +1,7 @@
 -- A sync that commits what is pending: the machine's event, and the file with the pending extents after its own.
-use Rattle.fs_types.proofs.Common.{common_steps}
-use Rattle.fs_types.proofs.Common.{arith}
-use Rattle.fs_types.proofs.Common.{◌≡◌, ℕ, ◌+◌, true, false, List, [], ◌++◌, length, Some, Vec, refl, ap, ◌∙◌, map-append}
-use Rattle.fs_script.specs.Vocabulary.{Job, bytes_of, has_any, effect_of, put_lines}
-use Rattle.core_machine.specs.Vocabulary.{Extent, OwnedPath, ClientPath, lines_of_extents, bytes_of_extents, committed_as, file_of}
-use Rattle.core_machine.specs.Vocabulary.{pending_lines, kept_event}
+use Rattle.fs_types.proofs.Common.{common_steps, arith, ◌≡◌, ◌+◌, true, List, ◌++◌, length, Some, Vec, refl, map-append}
+use Rattle.fs_script.specs.Vocabulary.{Job, bytes_of, has_any, effect_of}
+use Rattle.core_machine.specs.Vocabulary.{Extent, OwnedPath, ClientPath, lines_of_extents, committed_as, file_of, pending_lines, kept_event}
 use Rattle.fs_script.proofs.CallerLemmas.{put_lines-append}
 use Rattle.fs_script.specs.declared.line.Op.TheVariants as ops
 

@@ -1,8 +1,6 @@
 -- The event of a write is legal.
-use Rattle.fs_types.proofs.Common.{common_steps}
-use Rattle.fs_types.proofs.Common.{arith}
-use Rattle.fs_types.proofs.Common.{◌≡◌, ℕ, ◌+◌, false, not, length, Some, None, is_some, ltb, ltb-true, ltb-false, refl, ap, ◌∙◌, cond_both}
-use Rattle.fs_script.specs.Vocabulary.{LONGEST_FILE, File, is_open_to_change, is_frozen, Write, data_bytes, state, MayWrite}
+use Rattle.fs_types.proofs.Common.{common_steps, arith, ◌≡◌, ℕ, false, not, Some, None, is_some, refl, ap, ◌∙◌, cond_both}
+use Rattle.fs_script.specs.Vocabulary.{File, is_open_to_change, is_frozen, Write, data_bytes, state, MayWrite}
 use Rattle.core_machine.specs.Vocabulary.{Op, Data, known_of, write_within, write_at_front, write_event}
 use Rattle.core_machine.proofs.Legal.Event.{NextLine, now, view_then, IsLegalEvent, MayPrint-front, kept, if_open-legal}
 use Rattle.fs_types.specs.declared.answer.Answer.TheVariants as answers
