@@ -2,9 +2,10 @@
 use Rattle.fs_types.proofs.Common.{◌≡◌, ℕ, Bool, ◌^◌, ◌<◌, nat_le, List, length, drop, Option, Some, None, sym, subst, arith, div-le_self}
 use Rattle.fs_types.proofs.Common.{cond_both, leb-true, All-take, All-drop, recursion_from_All}
 use Rattle.md5.specs.Md5.{md5}
-use Rattle.fs_script.specs.Vocabulary.{Answer, Body, HEX_LIMIT, shown, File, OpLine, Op, Job, op_at, brought, Range, asked, Answering}
+use Rattle.fs_script.specs.Vocabulary.{Answer, Body, shown, File, OpLine, Op, Job, op_at, brought, Range, asked, Answering}
 use Rattle.fs_script.specs.Vocabulary.{state, AreTold, LineView, line_view, Accepts, ShowsAsked, Fits, body_of, IsLegalJournal}
 use Rattle.fs_script.specs.Vocabulary.{IsPrintableBody, IsPrintableAnswer}
+use Rattle.fs_types.specs.declared.limits.TheConstants.{HEX_LIMIT}
 use Rattle.fs_script.specs.Grammar.{IsJob, IsOp}
 use Rattle.fs_types.proofs.CallerLemmas.{length-shown}
 use Rattle.fs_script.proofs.Digests.{IsDigest-md5}
