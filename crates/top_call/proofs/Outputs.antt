@@ -10,7 +10,7 @@ use Rattle.fs_script.specs.Job.{Job}
 use Rattle.fs_script.specs.Grammar.{IsScript}
 use Rattle.fs_script.specs.Reading.Scripts.{job_of}
 use Rattle.fs_script.proofs.CallerLemmas.{script_is_job}
-use Rattle.top_call.specs.Faults.{HasRisen}
+use Rattle.fs_types.specs.Faults.{HasRisen}
 use Rattle.top_call.specs.Told.{IsAtEnd, then_bytes}
 use Rattle.top_call.specs.declared.words.Command.{Command}
 use Rattle.top_call.specs.declared.words.Command.TheVariants.{Sim}

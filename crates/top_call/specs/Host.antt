@@ -2,7 +2,7 @@
 use Rattle.std.specs.Prelude.{ℕ, ◌≡◌, ◌≢◌, List, ◌∷◌, Option, Some}
 use Rattle.std.specs.Option.{option_map}
 use Rattle.top_call.specs.Told.{then_bytes}
-use Rattle.top_call.specs.Faults.{HasRisen}
+use Rattle.fs_types.specs.Faults.{HasRisen}
 use Rattle.top_call.specs.Source.{IsReadOf, IsUnread}
 use Rattle.top_call.specs.declared.outside.refused.RefusedCall.{RefusedCall}
 use Rattle.top_call.specs.declared.outside.refused.RefusedCall.TheVariants.{Read, Write}

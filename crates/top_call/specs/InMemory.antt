@@ -1,7 +1,7 @@
 -- What the sources and sinks in memory hold, and which of their calls fail.
 use Rattle.std.specs.Prelude.{ℕ, ◌==◌, min, Bool, ◌&&◌, ◌||◌, not, List, length, drop, nat_eq, if◌then◌else◌}
 use Rattle.std.specs.List.{list_any}
-use Rattle.top_call.specs.Faults.{next_count}
+use Rattle.fs_types.specs.Faults.{next_count}
 
 -- which calls of an object fail, by their numbers from 1, and how many there were and have failed
 pub record Schedule : Type 0 where

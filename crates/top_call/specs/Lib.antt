@@ -1,5 +1,4 @@
 pub mod Told
-pub mod Faults
 pub mod Source
 pub mod Sink
 pub mod ReadAll

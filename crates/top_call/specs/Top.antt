@@ -6,7 +6,7 @@ use Rattle.fs_types.specs.declared.status.Status.TheVariants.{Memory}
 use Rattle.fs_script.specs.Job.{Job}
 use Rattle.fs_script.specs.Grammar.{IsScript}
 use Rattle.fs_script.specs.Reading.Scripts.{job_of}
-use Rattle.top_call.specs.Faults.{HasRisen}
+use Rattle.fs_types.specs.Faults.{HasRisen}
 use Rattle.top_call.specs.Told.{IsAtEnd, then_bytes}
 use Rattle.top_call.specs.Sink.{TookFront}
 use Rattle.top_call.specs.declared.words.Command.TheVariants.{Sim}

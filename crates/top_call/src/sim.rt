@@ -3,7 +3,7 @@
 ghost use Rattle.std.specs.Prelude.{◌≡◌, ◌≢◌, ◌⊎◌, ℕ, List, Err, IfOk, IfSome, IsErrOf};
 ghost use Rattle.fs_script.specs.Report.{Report, IsLegal};
 ghost use Rattle.fs_script.specs.Text.{text};
-ghost use Rattle.top_call.specs.Faults.{HasRisen};
+ghost use Rattle.fs_types.specs.Faults.{HasRisen};
 ghost use Rattle.top_call.specs.Told.{IsAtEnd};
 ghost use Rattle.top_call.specs.UsageAndRefusals.{refusal_line};
 ghost use Rattle.top_call.specs.CommandAnswer.{IsSimAnswer};

@@ -8,13 +8,14 @@ use Rattle.std.proofs.lemmas.Bool.{and_from, and_parts, le-leb, leb-true, eq-eqb
 use Rattle.std.proofs.lemmas.Bool.Decides.{nat_tests, Decides-eqb}
 use Rattle.std.proofs.lemmas.List.{drop_at}
 use Rattle.std.proofs.lemmas.Slice.Eq.{starts_is}
+use Rattle.fs_types.specs.PathText.{is_between}
 use Rattle.fs_script.specs.declared.fault.ScriptFault.TheVariants as faults
 use Rattle.fs_script.specs.declared.limits.TheConstants.{SERVER_LIMIT, CLIENT_LIMIT, LEAST_CHUNK, MOST_CHUNK, CHUNK_UNIT, MEMORY_SLOTS, MEMORY_BYTES, SPILL_SLOTS, SPILL_BYTES}
 use Rattle.fs_script.specs.declared.shape.Shape.{Shape}
 use Rattle.fs_script.specs.Grammar.{shape_words, header_text, AreFew, IsShape}
 use Rattle.fs_script.specs.Reading.Pieces.{words_of}
 use Rattle.fs_script.specs.Reading.Numbers.{number_of}
-use Rattle.fs_script.specs.Reading.Headers.{field, is_between, are_few, is_shape, shape_of, shape_of_words, header_of}
+use Rattle.fs_script.specs.Reading.Headers.{field, are_few, is_shape, shape_of, shape_of_words, header_of}
 use Rattle.fs_script.proofs.Reading.Steps.{bind_ok, guard, test, some_is}
 use Rattle.fs_script.proofs.Reading.Numbers.{number_is_text, text_is_number}
 use Rattle.fs_script.proofs.Reading.Words.{IsWord, is_word-append, is_word-decimal, pieces_joined, pieces_again}

@@ -1,6 +1,7 @@
 -- Reading a header: its form first, and then the limits of its numbers.
 use Rattle.std.specs.Prelude.{ℕ, ◌+◌, ◌*◌, ◌%◌, ◌==◌, Bool, ◌&&◌, nat_le, nat_eq, List, [], ◌∷◌, length, drop, codes, Result, Ok, Err, ok_or, if◌then◌else◌}
 use Rattle.std.specs.List.{starts_with}
+use Rattle.fs_types.specs.PathText.{is_between}
 use Rattle.fs_script.specs.declared.limits.TheConstants.{SERVER_LIMIT, CLIENT_LIMIT, LEAST_CHUNK, MOST_CHUNK, CHUNK_UNIT, MEMORY_SLOTS, MEMORY_BYTES, SPILL_SLOTS, SPILL_BYTES}
 use Rattle.fs_script.specs.declared.shape.Shape.{Shape}
 use Rattle.fs_script.specs.declared.fault.ScriptFault.{ScriptFault}
@@ -14,9 +15,6 @@ abbrev pub field : List ℕ → List ℕ → Result ℕ ScriptFault
 field name word =
     if starts_with nat_eq word name then ok_or (number_of (drop (length name) word)) faults.BadHeader
     else Err faults.BadHeader
-
-abbrev pub is_between : ℕ → ℕ → ℕ → Bool
-is_between least most n = nat_le least n && nat_le n most
 
 -- whether so many slots for each client are, over all clients, no more slots and no more bytes than these
 abbrev pub are_few : ℕ → ℕ → ℕ → ℕ → ℕ → Bool

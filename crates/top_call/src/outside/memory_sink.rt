@@ -1,7 +1,7 @@
 //! Sinks that hold their bytes in memory.
 
 ghost use Rattle.std.specs.Prelude.{◌≡◌, ◌≤◌, ◌<◌, ◌-◌, ◌++◌, [], length, take, is_err, IfOk, OnOk, OnErr, Some};
-ghost use Rattle.top_call.specs.Faults.{HasRisen};
+ghost use Rattle.fs_types.specs.Faults.{HasRisen};
 ghost use Rattle.top_call.specs.InMemory.{after_call, fresh_schedule, taken_len, refuses};
 
 use super::schedule::FailSchedule;

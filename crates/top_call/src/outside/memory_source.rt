@@ -1,7 +1,7 @@
 //! Sources that hold their bytes in memory.
 
 ghost use Rattle.std.specs.Prelude.{◌≡◌, ◌≤◌, length, IsOk, is_err, IfOk, OnOk, OnErr, Some};
-ghost use Rattle.top_call.specs.Faults.{HasRisen};
+ghost use Rattle.fs_types.specs.Faults.{HasRisen};
 ghost use Rattle.top_call.specs.Source.{IsReadOf, IsUnread};
 ghost use Rattle.top_call.specs.InMemory.{is_due, after_call, fresh_schedule, portion_len, after_portion};
 

@@ -1,7 +1,7 @@
 //! A host and a device that refuse all calls.
 
 ghost use Rattle.std.specs.Prelude.{◌≡◌, [], None, Some, length, IsErr, OnErr};
-ghost use Rattle.top_call.specs.Faults.{HasRisen};
+ghost use Rattle.fs_types.specs.Faults.{HasRisen};
 ghost use Rattle.top_call.specs.Host.{RefusedTo};
 ghost use Rattle.top_call.specs.SpillDev.{LeftOpen};
 ghost use Rattle.top_call.specs.declared.outside.refused.RefusedCall.TheVariants.{Device, Source, Sink};

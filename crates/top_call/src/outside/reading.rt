@@ -1,7 +1,7 @@
 //! Reading a source to its end.
 
 ghost use Rattle.std.specs.Prelude.{◌≡◌, ◌≢◌, ◌≤◌, ◌<◌, IfOk, OnOk, IfSome, IsErrOf, is_some, vec_len, length, Err};
-ghost use Rattle.top_call.specs.Faults.{HasRisen};
+ghost use Rattle.fs_types.specs.Faults.{HasRisen};
 ghost use Rattle.top_call.specs.Told.{IsAtEnd};
 ghost use Rattle.top_call.specs.ReadAll.{TookMoreThan, TookAtMost};
 ghost use Rattle.top_call.specs.declared.outside.reading.ReadAllNo.TheVariants.{ReadFault, Want};

@@ -1,7 +1,7 @@
 //! Which calls of an object in memory fail.
 
 ghost use Rattle.std.specs.Prelude.{◌≡◌};
-ghost use Rattle.top_call.specs.Faults.{HasRisen, next_count};
+ghost use Rattle.fs_types.specs.Faults.{HasRisen, next_count};
 ghost use Rattle.top_call.specs.InMemory.{Schedule, fresh_schedule, is_due};
 
 use std::marker::Model;

@@ -1,7 +1,7 @@
 //! Devices that hold the bytes which memory has no room for.
 
 ghost use Rattle.std.specs.Prelude.{◌≡◌, ◌≤◌, ◌<◌, ◌+◌, ℕ, List, length, Option, IfSome, OnOk, OnErr};
-ghost use Rattle.top_call.specs.Faults.{HasRisen};
+ghost use Rattle.fs_types.specs.Faults.{HasRisen};
 ghost use Rattle.top_call.specs.SpillDev.{Wrote, LeftOpen, WasWritten, HoldsAt};
 
 use thiserror::Error;

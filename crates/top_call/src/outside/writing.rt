@@ -1,7 +1,7 @@
 //! Writing all of a text.
 
 ghost use Rattle.std.specs.Prelude.{◌≡◌, OnOk, OnErr};
-ghost use Rattle.top_call.specs.Faults.{HasRisen};
+ghost use Rattle.fs_types.specs.Faults.{HasRisen};
 ghost use Rattle.top_call.specs.Sink.{TookFront};
 ghost use Rattle.top_call.specs.Told.{then_bytes};
 
