@@ -54,34 +54,34 @@ pieces_differ same = omega (arith, ap (λ p. p.part) same)
 fragments_of_two_pieces : AreHeldFragments 70 (head ∷ after ∷ []) both
 fragments_of_two_pieces = record {
   have_bytes = of_two (λ f. 0 < f.len) head after (lit< tt) (lit< tt);
-  rise_apart = of_pair (λ f g. end_of f ≤ g.at) head after (lit≤ tt);
+  in_order = of_pair (λ f g. end_of f ≤ g.at) head after (lit≤ tt);
   in_file = of_two (λ f. end_of f ≤ 70) head after (lit≤ tt) (lit≤ tt);
   in_piece = of_two (λ f. All (LiesWithin f) both) head after
-    (of_two (LiesWithin head) of_first of_second (λ _. lit≤ tt) (λ same. absurd (pieces_differ same)))
-    (of_two (LiesWithin after) of_first of_second (λ _. lit≤ tt) (λ _. lit≤ tt));
+      (of_two (LiesWithin head) of_first of_second (λ _. lit≤ tt) (λ same. absurd (pieces_differ same)))
+      (of_two (LiesWithin after) of_first of_second (λ _. lit≤ tt) (λ _. lit≤ tt));
   one_hold = of_two (λ f. hold_count f.piece both ≡ 1) head after refl refl;
-  named = of_two (λ h. 0 < fragment_count h.piece (head ∷ after ∷ [])) of_first of_second (lit< tt) (lit< tt)
-  }
+  named = of_two (λ h. 0 < fragment_count h.piece (head ∷ after ∷ [])) of_first of_second (lit< tt) (lit< tt);
+}
 
 fragments_of_one_piece : AreHeldFragments 64 (head ∷ tail ∷ []) (of_first ∷ [])
 fragments_of_one_piece = record {
   have_bytes = of_two (λ f. 0 < f.len) head tail (lit< tt) (lit< tt);
-  rise_apart = of_pair (λ f g. end_of f ≤ g.at) head tail (lit≤ tt);
+  in_order = of_pair (λ f g. end_of f ≤ g.at) head tail (lit≤ tt);
   in_file = of_two (λ f. end_of f ≤ 64) head tail (lit≤ tt) (lit≤ tt);
   in_piece = of_two (λ f. All (LiesWithin f) (of_first ∷ [])) head tail
-    (of_one (LiesWithin head) of_first (λ _. lit≤ tt)) (of_one (LiesWithin tail) of_first (λ _. lit≤ tt));
+      (of_one (LiesWithin head) of_first (λ _. lit≤ tt)) (of_one (LiesWithin tail) of_first (λ _. lit≤ tt));
   one_hold = of_two (λ f. hold_count f.piece (of_first ∷ []) ≡ 1) head tail refl refl;
-  named = of_one (λ h. 0 < fragment_count h.piece (head ∷ tail ∷ [])) of_first (lit< tt)
-  }
+  named = of_one (λ h. 0 < fragment_count h.piece (head ∷ tail ∷ [])) of_first (lit< tt);
+}
 
 empty_fragment : ¬ AreHeldFragments 70 (frag 0 0 first 0 ∷ []) (of_first ∷ [])
 empty_fragment w = omega (arith, w.have_bytes 0 head (lit< tt))
 
 falling : ¬ AreHeldFragments 70 (after ∷ head ∷ []) both
-falling w = omega (arith, w.rise_apart 0 1 head (lit< tt) (lit< tt))
+falling w = omega (arith, w.in_order 0 1 head (lit< tt) (lit< tt))
 
 overlapping : ¬ AreHeldFragments 70 (head ∷ frag 9 6 second 0 ∷ []) both
-overlapping w = omega (arith, w.rise_apart 0 1 head (lit< tt) (lit< tt))
+overlapping w = omega (arith, w.in_order 0 1 head (lit< tt) (lit< tt))
 
 past_the_file : ¬ AreHeldFragments 70 (frag 61 10 first 0 ∷ []) (of_first ∷ [])
 past_the_file w = omega (arith, w.in_file 0 head (lit< tt))

@@ -30,15 +30,15 @@ hold_count p held = count_by (λ h. piece_eq h.piece p) held
 abbrev pub end_of : Fragment → ℕ
 end_of f = f.at + f.len
 
--- a fragment isn't past the end of its piece, if this is it
+-- a fragment ends within a held piece, where this is the one that it names
 abbrev pub LiesWithin : Fragment → HeldPiece → Type 0
 LiesWithin f h = h.piece ≡ f.piece → f.from + f.len ≤ h.bytes
 
--- The fragments rise, each has a byte and none reaches past the end of the file, and they share no place of it.
--- Each lies in its piece. Each piece that they name has exactly one hold, and no other piece has one.
+-- Each fragment has a byte, ends before each later one begins, ends within the file, and lies in its piece. Each piece
+-- that they name has exactly one hold, and no other piece has one.
 pub record AreHeldFragments (file_end : ℕ) (frags : List Fragment) (held : List HeldPiece) : Type 0 where
   pub have_bytes : All (λ f. 0 < f.len) frags
-  pub rise_apart : AllPairs (λ f g. end_of f ≤ g.at) frags
+  pub in_order : AllPairs (λ f g. end_of f ≤ g.at) frags
   pub in_file : All (λ f. end_of f ≤ file_end) frags
   pub in_piece : All (λ f. All (LiesWithin f) held) frags
   pub one_hold : All (λ f. hold_count f.piece held ≡ 1) frags

@@ -20,16 +20,6 @@ impl MemHold {
     {
         MemHold { piece, bytes, room }
     }
-
-    fn with_room(&self, room: Option<u64>) -> MemHold
-        ensures { result ≡ record self.now { room = room } }
-    {
-        MemHold {
-            piece: self.piece,
-            bytes: self.bytes,
-            room,
-        }
-    }
 }
 
 impl Hold for MemHold {
@@ -51,12 +41,18 @@ impl Hold for MemHold {
 
     fn pin(&mut self, asked: u64) -> Result<MemHold, PinNo> {
         let Some(room) = self.room else {
-            return Ok(self.with_room(None));
+            return Ok(MemHold {
+                room: None,
+                ..*self
+            });
         };
         if room <= asked {
             return Err(PinNo::NoRoom);
         }
         self.room = Some(room - asked - 1);
-        Ok(self.with_room(Some(asked)))
+        Ok(MemHold {
+            room: Some(asked),
+            ..*self
+        })
     }
 }
