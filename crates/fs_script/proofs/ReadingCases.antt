@@ -10,7 +10,7 @@ use Rattle.fs_script.specs.declared.line.Data.TheVariants.{Pattern}
 use Rattle.fs_script.specs.declared.read.line_fault.LineFault.TheVariants.{Bad, OverLimit}
 use Rattle.fs_script.specs.declared.shape.Shape.{Shape}
 use Rattle.fs_script.specs.Job.{Job}
-use Rattle.fs_script.specs.Payload.{data_bytes}
+use Rattle.fs_script.specs.Payload.{data_bytes, pattern_byte}
 use Rattle.fs_script.specs.Reading.Numbers.{number_of}
 use Rattle.fs_script.specs.Reading.Headers.{header_of}
 use Rattle.fs_script.specs.Reading.Lines.{line_of}
@@ -71,6 +71,13 @@ pattern_of_seven = refl
 -- the seed is 255 modulo 256
 pattern_of_greatest_seed : data_bytes (Pattern 18446744073709551615 3) ≡ 255 ∷ 30 ∷ 61 ∷ []
 pattern_of_greatest_seed = refl
+
+-- a block has 256 bytes: 255 + 31 * 255 is 31 * 256 + 224, and 255 + 31 * 256 + 1 is 32 * 256
+last_byte_of_first_block : pattern_byte 18446744073709551615 255 ≡ 224
+last_byte_of_first_block = refl
+
+first_byte_of_second_block : pattern_byte 18446744073709551615 256 ≡ 0
+first_byte_of_second_block = refl
 
 -- ---- headers
 
