@@ -30,7 +30,8 @@ pub fn answer(
 ) -> Result<Answer, Want>
     requires line { op_at s.now n ≡ Some o.now }
     requires sound { AreSound s.now path.old own.old }
-    ensures follows { IfOk result (λ a. Follows s.now n o.now.op path.old own.old path.new own.new a) }
+    ensures follows { IfOk result
+        (λ a. Follows s.now n o.now.op path.old own.old path.new own.new a) }
     ensures sound { OnOk result (AreSound s.now path.new own.new) }
 {
     match &o.op {

@@ -39,7 +39,8 @@ pub fn covered(s: &Script, extents: &[Extent]) -> u64
 fn overlay(s: &Script, x: &Extent, off: u64, out: &mut [u8])
     requires extent { IsExtent s.now x.now }
     requires fits { off + length out.old < 2 ^ 64 }
-    ensures { (k : ℕ) → k < length out.old → slice_index out.new k ≡ byte_over s.now x.now (off + k) (slice_index out.old k) }
+    ensures { (k : ℕ) → k < length out.old
+        → slice_index out.new k ≡ byte_over s.now x.now (off + k) (slice_index out.old k) }
 {
     let from = x.at.max(off);
     let to = (x.at + x.len).min(off + out.len() as u64);
@@ -56,7 +57,8 @@ fn overlay_all(s: &Script, extents: &[Extent], off: u64, out: &mut [u8])
     requires extents { AreExtents s.now extents.now }
     requires fits { off + length out.old < 2 ^ 64 }
     requires zeros { out.old ≡ replicate (length out.old) 0 }
-    ensures { (k : ℕ) → k < length out.old → slice_index out.new k ≡ slice_index (bytes_of_extents s.now extents.now) (off + k) }
+    ensures { (k : ℕ) → k < length out.old
+        → slice_index out.new k ≡ slice_index (bytes_of_extents s.now extents.now) (off + k) }
 {
     for x in extents {
         overlay(s, x, off, out);

@@ -108,7 +108,8 @@ fn add_line(s: &Script, n: LineNo, programs: &mut [Program]) -> Result<(), Want>
 /// The clients' programs before the first answer.
 pub fn programs_of(alloc: Global, s: &Script) -> Result<Vec<Program>, Want>
     ensures programs { IfOk result (λ v. ArePrograms s.now v.items) }
-    ensures places { IfOk result (λ v. map (λ p. p.place) v.items ≡ replicate s.now.shape.clients 0) }
+    ensures places { IfOk result (λ v. map (λ p. p.place) v.items
+        ≡ replicate s.now.shape.clients 0) }
     ensures job { OnOk result (HasClients s.now) }
 {
     let mut programs = empty_programs(alloc, client_count(s))?;

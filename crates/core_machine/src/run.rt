@@ -121,8 +121,12 @@ fn answer_line(
 ) -> Result<(), Want>
     requires holds { Holds s.now paths.now states.old answers.old turns.now }
     requires going { Contains (going turns.now) r }
-    ensures holds { OnOk result (Holds s.now paths.now states.new answers.new (after_line turns.now r)) }
-    ensures step { OnOk result (moment_of s.now paths.now states.new answers.new (after_line turns.now r) false ≡ step (moment_of s.now paths.now states.old answers.old turns.now false) (record { client = r })) }
+    ensures holds { OnOk result (Holds s.now paths.now states.new answers.new
+        (after_line turns.now r)) }
+    ensures step { OnOk result (moment_of s.now paths.now states.new answers.new
+        (after_line turns.now r) false
+        ≡ step (moment_of s.now paths.now states.old answers.old turns.now false)
+        (record { client = r })) }
 {
     let n = turns.next(r);
     let o = operation(s, n);
@@ -155,11 +159,14 @@ fn tell_all(states: &mut [PathState])
 fn go_on(run: &mut Run<'_>, r: Rank)
     requires sized { length run.old.states.items ≡ length run.old.paths }
     requires going { Contains (going run.old.turns) r }
-    requires holds { Holds run.old.script.now run.old.paths run.old.states.items run.old.answers (after_line run.old.turns r) }
+    requires holds { Holds run.old.script.now run.old.paths run.old.states.items run.old.answers
+        (after_line run.old.turns r) }
     requires unspent { run.old.spent ≡ false }
     ensures run { IsRun run.new }
     ensures unspent { run.new.spent ≡ false }
-    ensures moment { moment run.new ≡ moment_of run.old.script.now run.old.paths run.old.states.items run.old.answers (after_line run.old.turns r) false }
+    ensures moment { moment run.new
+        ≡ moment_of run.old.script.now run.old.paths run.old.states.items run.old.answers
+        (after_line run.old.turns r) false }
 {
     if run.turns.advance(r) {
         tell_all(&mut run.states);

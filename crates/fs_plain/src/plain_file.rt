@@ -111,7 +111,7 @@ impl PlainFile {
     {
         match &self.content {
             Some(content) => content.bytes.byte(at),
-            None => 0,
+            None => unreachable!(),
         }
     }
 

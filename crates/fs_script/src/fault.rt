@@ -36,10 +36,10 @@ pub enum ScriptFault {
     /// A line after the header is none of a script.
     #[error("line {number} is none of a script", number = .line.0)]
     BadLine { line: LineNo, reason: Reason },
-    /// There are more than 65,536 lines.
+    /// There are more lines than [`LINE_LIMIT`](crate::limits::LINE_LIMIT).
     #[error("the script has too many lines")]
     TooManyLines,
-    /// There are more than 4,194,304 bytes.
+    /// There are more bytes than [`SCRIPT_LIMIT`](crate::limits::SCRIPT_LIMIT).
     #[error("the script is too long")]
     TooLong,
     /// Memory ran out.

@@ -110,16 +110,12 @@ impl Script {
         requires { IsSome (write_at self.now n) }
         ensures { data_bytes result.now ≡ payload self.now n }
     {
-        match self.line(n) {
-            Some(
-                Line::Op(
-                    OpLine {
-                        op: Op::Write { text, .. },
-                        ..
-                    },
-                ),
-            ) => text,
-            _ => unreachable!(),
+        let Some(Line::Op(o)) = self.line(n) else {
+            unreachable!()
+        };
+        match &o.op {
+            Op::Write { text, .. } => text,
+            Op::Create | Op::Open | Op::Sync | Op::Read { .. } | Op::Size => unreachable!(),
         }
     }
 
@@ -137,6 +133,7 @@ impl Script {
         requires within { from + length out.old ≤ length (payload self.now n) }
         ensures { out.new ≡ take (length out.old) (drop from (payload self.now n)) }
     {
+        // The script is looked at for its invariant, by which a line writes few enough bytes.
         let _ = &self.shape;
         self.data(n).copy_into(from, out);
     }

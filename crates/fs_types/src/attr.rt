@@ -6,6 +6,6 @@ pub struct Attr {
     pub exists: bool,
     /// How many bytes it has.
     pub size: u64,
-    /// Whether it was laminated, and so can no longer change.
+    /// Whether it is frozen, and so can no longer change.
     pub frozen: bool,
 }

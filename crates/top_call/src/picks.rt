@@ -8,7 +8,7 @@ use fs_types::Want;
 use std::alloc::Global;
 
 /// The picks of a seed that a simulated job is run under.
-pub const PICK_COUNT: usize = 4096;
+pub const PICK_COUNT: usize = 4_096;
 
 /// What a step of the generator multiplies its state by.
 pub const MULTIPLIER: u64 = 6_364_136_223_846_793_005;

@@ -17,8 +17,10 @@ pub fn create(
     path: &mut OwnedPath,
     own: &mut ClientPath,
 ) -> Result<Answer, Want>
-    ensures follows { IfOk result (λ a. (s : Job) → Follows s n Op.Create path.old own.old path.new own.new a) }
-    ensures sound { OnOk result ((s : Job) → AreSound s path.old own.old → AreSound s path.new own.new) }
+    ensures follows { IfOk result (λ a. (s : Job)
+        → Follows s n Op.Create path.old own.old path.new own.new a) }
+    ensures sound { OnOk result ((s : Job) → AreSound s path.old own.old
+        → AreSound s path.new own.new) }
 {
     if path.file.is_some() {
         let v = path.version();

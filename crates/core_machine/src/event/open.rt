@@ -11,7 +11,8 @@ use fs_types::Answer;
 
 /// Answers an open.
 pub fn open(path: &OwnedPath, own: &mut ClientPath) -> Answer
-    ensures follows { (s : Job) (n : ℕ) → Follows s n Op.Open path.now own.old path.now own.new result }
+    ensures follows { (s : Job) (n : ℕ)
+        → Follows s n Op.Open path.now own.old path.now own.new result }
     ensures sound { (s : Job) → AreSound s path.now own.old → AreSound s path.now own.new }
 {
     let v = path.version();

@@ -58,7 +58,8 @@ pub fn read(
     own: &mut ClientPath,
 ) -> Result<Answer, Want>
     requires { AreSound s.now path.now own.old }
-    ensures follows { IfOk result (λ a. (n : ℕ) → Follows s.now n (Op.Read off len) path.now own.old path.now own.new a) }
+    ensures follows { IfOk result (λ a. (n : ℕ)
+        → Follows s.now n (Op.Read off len) path.now own.old path.now own.new a) }
     ensures sound { OnOk result (AreSound s.now path.now own.new) }
 {
     if !own.is_open {

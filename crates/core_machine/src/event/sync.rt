@@ -11,8 +11,10 @@ use fs_types::{Answer, LineNo, Want};
 
 /// Answers a sync, line `n`.
 pub fn sync(n: LineNo, path: &mut OwnedPath, own: &mut ClientPath) -> Result<Answer, Want>
-    ensures follows { IfOk result (λ a. (s : Job) → Follows s n Op.Sync path.old own.old path.new own.new a) }
-    ensures sound { OnOk result ((s : Job) → AreSound s path.old own.old → AreSound s path.new own.new) }
+    ensures follows { IfOk result (λ a. (s : Job)
+        → Follows s n Op.Sync path.old own.old path.new own.new a) }
+    ensures sound { OnOk result ((s : Job) → AreSound s path.old own.old
+        → AreSound s path.new own.new) }
 {
     if !own.is_open {
         return Ok(Answer::BadF);

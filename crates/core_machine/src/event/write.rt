@@ -14,9 +14,12 @@ use fs_types::{Answer, LONGEST_FILE, LineNo, Want};
 
 // Makes a write pending, where it brings bytes.
 fn make_pending(n: LineNo, off: u64, len: u64, own: &mut ClientPath) -> Result<(), Want>
-    ensures pending { OnOk result (pending_lines own.new ≡ (if len == 0 then pending_lines own.old else pending_lines own.old ++ n ∷ [])) }
+    ensures pending { OnOk result (pending_lines own.new
+        ≡ (if len == 0 then pending_lines own.old else pending_lines own.old ++ n ∷ [])) }
     ensures rest { OnOk result (own.new ≡ record own.old { pending = own.new.pending }) }
-    ensures sound { OnOk result ((s : Job) (path : OwnedPath) → (0 < len → IsExtent s (record { at = off; len = len; line = n })) → AreSound s path own.old → AreSound s path own.new) }
+    ensures sound { OnOk result ((s : Job) (path : OwnedPath) → (0 < len
+        → IsExtent s (record { at = off; len = len; line = n })) → AreSound s path own.old
+        → AreSound s path own.new) }
 {
     if len > 0 {
         own.pending.push(Extent {
@@ -39,7 +42,8 @@ pub fn write(
 ) -> Result<Answer, Want>
     requires line { write_at s.now n ≡ Some (record { at = off; bytes = data_bytes text.now }) }
     requires sound { AreSound s.now path.now own.old }
-    ensures follows { IfOk result (λ a. Follows s.now n (Op.Write off text.now) path.now own.old path.now own.new a) }
+    ensures follows { IfOk result (λ a. Follows s.now n
+        (Op.Write off text.now) path.now own.old path.now own.new a) }
     ensures sound { OnOk result (AreSound s.now path.now own.new) }
 {
     if !own.is_open {

@@ -36,7 +36,8 @@ fn flag(frozen: bool) -> u8
 
 /// Appends, after a space, whether a file is frozen.
 pub fn append_flag(out: &mut Vec<u8>, frozen: bool) -> Result<(), Want>
-    ensures { OnOk result (out.new.items ≡ out.old.items ++ (codes " frozen=" ++ flag_text frozen)) }
+    ensures { OnOk result (out.new.items
+        ≡ out.old.items ++ (codes " frozen=" ++ flag_text frozen)) }
 {
     out.extend_from_slice(b" frozen=")?;
     out.push(flag(frozen))?;

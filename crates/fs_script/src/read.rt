@@ -80,7 +80,8 @@ fn script(alloc: Global, text: &[u8]) -> Result<Script, ScriptFault>
 /// The job that the bytes spell, or the first fault.
 pub fn read_script(alloc: Global, b: &[u8]) -> Result<Script, ScriptFault>
     ensures ok { IfOk result (λ s. IsScript b.now s) }
-    ensures only { (s : Job) → IsScript b.now s → (result ≡ Ok s) ⊎ (result ≡ Err ScriptFault.Want) }
+    ensures only { (s : Job) → IsScript b.now s
+        → (result ≡ Ok s) ⊎ (result ≡ Err ScriptFault.Want) }
     ensures fault { IfErr result (λ e. (e ≡ ScriptFault.Want) ⊎ (job_of b.now ≡ Err e)) }
 {
     if b.len() > SCRIPT_LIMIT {
