@@ -12,7 +12,7 @@ use Rattle.fs_script.specs.declared.line.Op.{Op}
 use Rattle.fs_script.specs.declared.line.Op.TheVariants as ops
 use Rattle.fs_script.specs.declared.line.Data.TheVariants.{Text}
 use Rattle.fs_script.specs.Job.{Job, phase}
-use Rattle.fs_script.specs.Pending.{Answering}
+use Rattle.fs_script.specs.Pending.{Answering, pending}
 use Rattle.fs_script.specs.Effect.{state}
 use Rattle.fs_script.specs.Front.{front, seen, of_earlier_phases, is_open}
 use Rattle.fs_script.specs.Fits.{Fits}
@@ -53,6 +53,33 @@ open_is_of_the_first_phase = refl
 
 read_is_of_the_second : phase two_phases 7 ≡ 1
 read_is_of_the_second = refl
+
+-- ---- pending writes
+
+-- what client 1 wrote stays pending up to its own sync, and client 0 has nothing pending then
+own_write_pending : pending two_phases two_answers 1 path_a 9 ≡ 8 ∷ []
+own_write_pending = refl
+
+no_write_of_another_pending : pending two_phases two_answers 0 path_a 9 ≡ []
+no_write_of_another_pending = refl
+
+-- nor does the sync of client 0 empty what client 1 has pending, wherever it stands
+abbrev pub sync_between : Job
+sync_between = record {
+  shape = two_phases.shape;
+  lines =
+      lines.Op (on_a ops.Create)
+      ∷ lines.Op (other_on_a ops.Open)
+      ∷ lines.Op (other_on_a (ops.Write 0 (Text (codes "x"))))
+      ∷ lines.Op (on_a (ops.Write 0 (Text (codes "hi"))))
+      ∷ lines.Op (on_a ops.Sync)
+      ∷ [];
+}
+
+pending_past_another_sync : pending sync_between
+    (answer_at ((2, answers.Done 1) ∷ (3, answers.Done 1) ∷ (4, answers.Wrote 1) ∷ (5, answers.Wrote 1) ∷ (6, answers.Done 2) ∷ []))
+    1 path_a 7 ≡ 4 ∷ []
+pending_past_another_sync = refl
 
 -- ---- fronts
 

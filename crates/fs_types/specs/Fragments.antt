@@ -48,6 +48,7 @@ pub record AreHeldFragments (file_end : ℕ) (frags : List Fragment) (held : Lis
 abbrev pub IsWellFormedPush : {H : Type 0} → (H → Piece) → (H → ℕ) → Push H → Type 0
 IsWellFormedPush piece bytes push = AreHeldFragments LONGEST_FILE push.frags.items (held_pieces piece bytes push.holds.items)
 
--- a replica is fragments of a file of its size, with their holds
+-- a replica is fragments of a file of its size, which is no longer than the longest, with their holds
 abbrev pub IsWellFormedReplica : {H : Type 0} → (H → Piece) → (H → ℕ) → Replica H → Type 0
-IsWellFormedReplica piece bytes r = AreHeldFragments r.size r.frags.items (held_pieces piece bytes r.holds.items)
+IsWellFormedReplica piece bytes r =
+    (r.size ≤ LONGEST_FILE) × AreHeldFragments r.size r.frags.items (held_pieces piece bytes r.holds.items)

@@ -51,12 +51,14 @@ end
 ";
 
 // Scripts, picks, and the text of the report under them.
-const RUNS: [(&[u8], &[u32], &[u8]); 5] = [
+const RUNS: &[(&[u8], &[u32], &[u8])] = &[
     (ONE_CLIENT, &[], ONE_CLIENT_REPORT),
     (ONE_CLIENT, &[0], ONE_CLIENT_REPORT),
     (ONE_CLIENT, &[7, u32::MAX], ONE_CLIENT_REPORT),
     (TWO_WRITERS, &[0], FIRST_WRITER_FIRST),
     (TWO_WRITERS, &[0, 1, 1, 1, 0, 0], SECOND_WRITER_FIRST),
+    // The second client's sync comes between the first one's write and its sync.
+    (TWO_WRITERS, &[0, 0, 1, 1, 1, 0], SECOND_WRITER_FIRST),
 ];
 
 #[test]

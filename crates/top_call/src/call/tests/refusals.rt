@@ -100,7 +100,7 @@ pub const HEADERS: [(&[&[u8]], &[u8]); 3] = [
 /// Lines that follow the header of four clients. The words of a line are tried from the left: the
 /// client, the operation, how many words there are, and then each of the others. The limit of the
 /// last word comes after all words.
-pub const LINES: [Printed; 62] = [
+pub const LINES: &[Printed] = &[
     (b"", NO_LINE),
     (b"\n#\nbarrier\n# 4 remove", NO_LINE),
     (b"3 create /unifyfs/a", CREATED),
@@ -149,6 +149,8 @@ pub const LINES: [Printed; 62] = [
     (b"0 write /unifyfs/a 0 hello", DATA),
     (b"0 write /unifyfs/a 0 t:\x7F", DATA),
     (b"0 write /unifyfs/a 0 t:\x7E", CLOSED),
+    (b"0 write /unifyfs/a 0 t:\x1F", DATA),
+    (b"0 write /unifyfs/a 0 t:\x21", CLOSED),
     (b"0 write /unifyfs/a 0 p:7", DATA),
     (b"0 write /unifyfs/a 0 p:7:4:", DATA),
     (b"0 write /unifyfs/a 0 p:07:16777217", DATA),
