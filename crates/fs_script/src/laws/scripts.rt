@@ -1,7 +1,8 @@
 //! Scripts and the jobs that they spell.
 
-ghost use Rattle.std.specs.Prelude.{◌≡◌, ◌<◌, ◌^◌, ℕ, List, Some, Ok};
+ghost use Rattle.std.specs.Prelude.{◌≡◌, ◌≢◌, ◌<◌, ◌^◌, ℕ, List, Some, Ok, Err};
 ghost use Rattle.std.specs.Fmt.{decimal};
+ghost use Rattle.fs_script.specs.declared.fault.ScriptFault.TheVariants.{Want};
 ghost use Rattle.fs_script.specs.Job.{Job};
 ghost use Rattle.fs_script.specs.Grammar.{IsJob, IsScript};
 ghost use Rattle.fs_script.specs.Reading.Scripts.{job_of};
@@ -22,6 +23,11 @@ pub fn scripts_are_of_jobs()
 pub fn reading_finds_scripts()
     ensures found { (bytes : List ℕ) (s : Job) → job_of bytes ≡ Ok s → IsScript bytes s }
     ensures all { (bytes : List ℕ) (s : Job) → IsScript bytes s → job_of bytes ≡ Ok s }
+{}
+
+/// No bytes are read as want of memory. So a reader that answers it says nothing of the bytes.
+pub fn reading_wants_no_memory()
+    ensures { (bytes : List ℕ) → job_of bytes ≢ Err Want }
 {}
 
 /// A word is read as a number exactly where it is the decimal text of one below 2 ^ 64.
