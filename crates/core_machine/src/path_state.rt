@@ -78,8 +78,10 @@ impl ClientPath {
 
     /// Notes a version that the client was answered.
     pub fn note(&mut self, version: Version, exists: bool)
-        ensures { self.new ≡ record self.old { noted = later_of
-            (record { version = version; exists = exists }) self.old.noted } }
+        ensures { self.new ≡ record self.old {
+          noted = later_of
+              (record { version = version; exists = exists }) self.old.noted;
+        } }
     {
         self.noted = Noted { version, exists }.later(self.noted);
     }
