@@ -1,5 +1,6 @@
 pub mod Extents
 pub mod PathTable
+pub mod OwnerFiles
 pub mod Doing
 pub mod Moment
 pub mod Event

@@ -8,6 +8,7 @@ mod file_state;
 mod laws;
 mod machine;
 mod noted;
+mod owner_files;
 mod path_state;
 mod path_table;
 mod program;
