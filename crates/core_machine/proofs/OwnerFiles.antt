@@ -1,6 +1,8 @@
 -- Files under their gfids, in their owners' lists.
-use Rattle.fs_types.proofs.Common.{◌≡◌, ℕ, ◌+◌, ◌⊎◌, ◌&&◌, inl, inr, Bool, true, false, if◌then◌else◌, List, [], ◌∷◌, ◌++◌, get_or, slice_get, Option, Some, None, Contains, Vec, nat_eq, set, refl, sym, subst, ◌∙◌, arith, false≢true, Contains-append_left, Contains-push, Decides-eqb, slice_get_within}
 use Rattle.std.proofs.lemmas.List.Elements.{Contains-push_cases}
+use Rattle.fs_types.proofs.Common.{◌≡◌, ℕ, ◌+◌, ◌⊎◌, ◌&&◌, inl, inr, Bool, true, false, if◌then◌else◌, List, [], ◌∷◌, ◌++◌, get_or}
+use Rattle.fs_types.proofs.Common.{slice_get, Option, Some, None, Contains, Vec, nat_eq, set, refl, sym, subst, ◌∙◌, arith, false≢true}
+use Rattle.fs_types.proofs.Common.{Contains-append_left, Contains-push, Decides-eqb, slice_get_within}
 use Rattle.std.specs.Prelude.{◌↔◌, unwrap_or}
 use Rattle.std.specs.Bool.{Decides}
 use Rattle.std.specs.Option.{option_map_or}

@@ -150,7 +150,8 @@ within-from_found ps p (Some i) there = slice_get_within ps i p there
 -- the place that is found is the first of the path
 pub position-from_found : (ps : List (List ℕ)) (p : List ℕ) (r : Option ℕ) → AreRising ps → IfSome r (λ i. slice_get ps i ≡ Some p)
     → IfNone r (Contains ps p → ⊥) → r ≡ position (λ q. bytes_eq q p) ps
-position-from_found ps p r rising found absent = by r found absent (position (λ q. bytes_eq q p) ps) (slice_get-position ps p) (absent-from_position ps p)
+position-from_found ps p r rising found absent =
+    by r found absent (position (λ q. bytes_eq q p) ps) (slice_get-position ps p) (absent-from_position ps p)
   where
     member : (i : ℕ) → slice_get ps i ≡ Some p → Contains ps p
     member i at = (i, slice_get_within ps i p at, get_or_from_slice_get ps i p p at)

@@ -1,5 +1,6 @@
 -- Where each path's file is kept: under its gfid, in its owner's list.
-use Rattle.std.specs.Prelude.{◌≡◌, ℕ, ◌<◌, ◌≤◌, ◌↔◌, ◌&&◌, if◌then◌else◌, List, [], ◌∷◌, ◌++◌, Vec, length, slice_get, get_or, Contains, nat_eq}
+use Rattle.std.specs.Prelude.{◌≡◌, ℕ, ◌<◌, ◌≤◌, ◌↔◌, ◌&&◌, if◌then◌else◌, List, [], ◌∷◌, ◌++◌, Vec, length, slice_get, get_or, Contains}
+use Rattle.std.specs.Prelude.{nat_eq}
 use Rattle.std.specs.Option.{option_map_or}
 use Rattle.indexmap.specs.IndexMap.{IndexMap, get}
 use Rattle.placement.specs.Placement.{gfid, owner}

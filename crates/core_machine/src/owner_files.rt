@@ -41,7 +41,8 @@ impl OwnerFiles {
     /// So many servers that own nothing.
     pub fn new(alloc: Global, servers: u32) -> Result<OwnerFiles, Want>
         requires { 1 ≤ servers }
-        ensures { IfOk result (λ files. (ps : List (List ℕ)) → AreFiled servers ps 0 files) }
+        ensures lists { IfOk result HasLists }
+        ensures none { IfOk result (λ files. (ps : List (List ℕ)) → AreFiled servers ps 0 files) }
     {
         let mut lists = Vec::new(alloc);
         for _ in 0..servers {

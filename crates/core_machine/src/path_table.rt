@@ -5,6 +5,7 @@ ghost use Rattle.std.specs.Str.{bytes_eq};
 ghost use Rattle.fs_script.specs.Job.{op_at};
 ghost use Rattle.fs_script.specs.Report.{ArePaths, AreRising};
 ghost use Rattle.core_machine.specs.PathTable.{texts, with_path, with_op, paths_of};
+ghost use Rattle.core_machine.specs.OwnerFiles.{AreFiled};
 
 use crate::owner_files::{OwnerFiles, files_of};
 use fs_script::{Line, Script};
@@ -83,11 +84,18 @@ fn sorted_paths(alloc: Global, s: &Script) -> Result<IndexSet<Vec<u8>>, Want>
     Ok(paths)
 }
 
-// The list of these paths, without the table that found their likes.
+// The paths as a list. Once they are sorted, none is added, so no set is needed.
 fn into_list(alloc: Global, paths: IndexSet<Vec<u8>>) -> Result<Vec<Vec<u8>>, Want>
     ensures { IfOk result (λ v. v.items ≡ paths.keys) }
 {
     Ok(paths.into_iter().collect(alloc)?)
+}
+
+// Where the script's servers keep these paths.
+fn files_of_script(alloc: Global, s: &Script, paths: &[Vec<u8>]) -> Result<OwnerFiles, Want>
+    ensures { IfOk result (λ files. AreFiled s.now.shape.servers (texts paths.now) (length (texts paths.now)) files) }
+{
+    files_of(alloc, s.shape().servers, paths)
 }
 
 // Whether the path at this place is `p`.
@@ -120,7 +128,7 @@ impl PathTable {
         ensures { IfOk result (λ t. ArePaths s.now t) }
     {
         let paths = into_list(alloc, sorted_paths(alloc, s)?)?;
-        let files = files_of(alloc, s.shape().servers, &paths)?;
+        let files = files_of_script(alloc, s, &paths)?;
         Ok(PathTable { paths, files })
     }
 

@@ -6,6 +6,9 @@ use Rattle.core_machine.specs.OwnerFiles.{AreFiled, AddsFile}
 use Rattle.core_machine.proofs.OwnerFiles.{AreFiled-more}
 use Rattle.core_machine.proofs.owner_files.files_of.Goals as goal
 
+pub loop-place-init : goal.loop-place-init
+loop-place-init c = c.in_ok-files.ensures.none (texts c.args.paths.now)
+
 pub loop-place-preserved : goal.loop-place-preserved
 loop-place-preserved c = AreFiled-more c.args.servers (texts c.args.paths.now) c.loop-place.place c.loop-place.files c.add.new.self
     c.loop-place.invariant (subst (λ g. AddsFile c.loop-place.files c.add.new.self g c.loop-place.place)
