@@ -13,8 +13,8 @@ use Rattle.core_machine.specs.LegalSoFar.{HasClients, IsAnsweredUpTo}
 use Rattle.core_machine.specs.Turns.{Places}
 
 -- the line after the script's last
-abbrev pub end_of : Job → ℕ
-end_of s = length s.lines + 2
+abbrev pub script_end : Job → ℕ
+script_end s = length s.lines + 2
 
 -- the owner's part: all lines of the journal were answered, the file is what they make, and the board has how many of
 -- them are of earlier phases than the run's, with what is known of the file then
@@ -27,10 +27,10 @@ pub record StandsForOwner (s : Job) (A : Answering) (now : ℕ) (x : OwnedPath) 
 
 -- client r's part of path p: whether it is open, what is pending, and the greatest version seen with what is known of the file
 pub record StandsForClient (s : Job) (A : Answering) (r : ℕ) (p : List ℕ) (x : OwnedPath) (k : ClientPath) : Type 0 where
-  pub opened : k.is_open ≡ is_open s A r p (end_of s)
-  pub pending : pending_lines k ≡ pending s A r p (end_of s)
+  pub opened : k.is_open ≡ is_open s A r p (script_end s)
+  pub pending : pending_lines k ≡ pending s A r p (script_end s)
   pub extents : AreExtents s k.pending.items
-  pub seen : k.noted.version ≡ seen s A r p (end_of s)
+  pub seen : k.noted.version ≡ seen s A r p (script_end s)
   pub within : k.noted.version ≤ length x.journal.items
   pub known : known_from k.noted ≡ known_of (state s A x.journal.items k.noted.version)
 

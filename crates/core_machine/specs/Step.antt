@@ -48,9 +48,9 @@ abbrev pub event_at : Moment → ℕ → OpLine → Event
 event_at m n o = event_of m.job.shape.chunk (path_now m.job (answering m) (journal m o.path) n o) o.op
 
 -- the answers with that to line n, if it has one
-abbrev pub with_answer : ℕ → Option Answer → List (ℕ × Answer) → List (ℕ × Answer)
-with_answer n None xs = xs
-with_answer n (Some a) xs = put_answer n a xs
+abbrev pub answers_with : ℕ → Option Answer → List (ℕ × Answer) → List (ℕ × Answer)
+answers_with n None xs = xs
+answers_with n (Some a) xs = put_answer n a xs
 
 -- a client after an event of its line: an answer brings it to the next one
 abbrev pub after_turn : Client → Event → Client
@@ -61,7 +61,7 @@ abbrev pub after_event : Moment → ℕ → ℕ → OpLine → Event → Moment
 after_event m r n o e = record {
   job = m.job;
   clients = slice_set m.clients r (after_turn (client_of m r) e);
-  answers = with_answer n e.answer m.answers;
+  answers = answers_with n e.answer m.answers;
   journals = if e.commits then with_entry o.path n m.journals else m.journals;
   spent = false;
 }

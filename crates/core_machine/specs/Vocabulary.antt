@@ -23,7 +23,7 @@ pub use Rattle.core_machine.specs.MomentKept.{client_at, moment_of, journals_of}
 pub use Rattle.core_machine.specs.MomentReport.{report_of}
 pub use Rattle.core_machine.specs.PathTable.{texts, paths_of, with_op, with_path, with_path_of}
 pub use Rattle.core_machine.specs.Program.{IsLeast, next_of, next_phases, ArePrograms, places_of, IsKept, with_program_line}
-pub use Rattle.core_machine.specs.Standing.{Holds, Stands, StandsForOwner, StandsForClient, end_of}
+pub use Rattle.core_machine.specs.Standing.{Holds, Stands, StandsForOwner, StandsForClient, script_end}
 pub use Rattle.core_machine.specs.Step.{Turn, step, path_now, after_event, event_at, step_line, step_at, after_turn, event_of}
 pub use Rattle.core_machine.specs.Turns.{Places, next_in, going, IsInPhase, is_of_phase, after_line}
 pub use Rattle.core_machine.specs.declared.extent.Extent.{Extent}

@@ -10,7 +10,7 @@ use Rattle.fs_script.specs.Pending.{Answering}
 use Rattle.fs_script.proofs.CallerLemmas.{path_a, on_a}
 use Rattle.fs_plain.specs.Blocks.{is_blank, byte_at, first_bytes, byte_put}
 use Rattle.fs_plain.specs.Front.{front_at}
-use Rattle.fs_plain.specs.Kept.{file_of}
+use Rattle.fs_plain.specs.Kept.{file_kept}
 use Rattle.fs_plain.specs.PlainFile.{attr_of, bytes_in}
 
 -- ---- blocks
@@ -45,14 +45,14 @@ byte_behind = refl
 
 -- ---- what is told of a file
 
-attr_of_none : attr_of (file_of None) ≡ record { exists = false; size = 0; frozen = false }
+attr_of_none : attr_of (file_kept None) ≡ record { exists = false; size = 0; frozen = false }
 attr_of_none = refl
 
 attr_of_three_bytes :
-    attr_of (file_of (Some (record { bytes = codes "abc"; frozen = true }))) ≡ record { exists = true; size = 3; frozen = true }
+    attr_of (file_kept (Some (record { bytes = codes "abc"; frozen = true }))) ≡ record { exists = true; size = 3; frozen = true }
 attr_of_three_bytes = refl
 
-bytes_of_none : bytes_in (file_of None) ≡ []
+bytes_of_none : bytes_in (file_kept None) ≡ []
 bytes_of_none = refl
 
 -- ---- fronts

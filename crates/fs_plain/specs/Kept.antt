@@ -3,6 +3,6 @@ use Rattle.std.specs.Prelude.{ℕ, Option, Some, None}
 use Rattle.fs_types.specs.PlainFile.{File}
 use Rattle.fs_plain.specs.declared.plain_file.Content.{Content}
 
-abbrev pub file_of : Option Content → File ℕ
-file_of None = None
-file_of (Some c) = Some (record { cells = c.bytes; frozen = c.frozen })
+abbrev pub file_kept : Option Content → File ℕ
+file_kept None = None
+file_kept (Some c) = Some (record { cells = c.bytes; frozen = c.frozen })

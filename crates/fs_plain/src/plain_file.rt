@@ -32,9 +32,9 @@ impl Model for PlainFile {
 
     ghost Value = { File ℕ };
 
-    ghost use Rattle.fs_plain.specs.Kept.{file_of};
+    ghost use Rattle.fs_plain.specs.Kept.{file_kept};
 
-    ghost view = { λ f. file_of f.content };
+    ghost view = { λ f. file_kept f.content };
 }
 
 impl PlainFile {

@@ -3,7 +3,7 @@ use Rattle.fs_types.proofs.Common.{◌≡◌, ℕ, suc, ◌≤◌, ◌<◌, Bool
 use Rattle.fs_script.specs.Vocabulary.{Answer, Job, own_at, version_of, Answering, after_answer, one_more, over_answers, state, opens}
 use Rattle.fs_script.specs.Vocabulary.{at_least, AddsAnswer}
 use Rattle.core_machine.specs.Vocabulary.{Op, OpLine, OwnedPath, ClientPath, known_of, AreSound, known_from, Follows, kept_event, Knows}
-use Rattle.core_machine.specs.Vocabulary.{StandsForOwner, StandsForClient, end_of}
+use Rattle.core_machine.specs.Vocabulary.{StandsForOwner, StandsForClient, script_end}
 use Rattle.fs_script.proofs.CallerLemmas.{over_answers-agree, AgreeBefore-next}
 use Rattle.core_machine.proofs.Refines.Answers.{AgreeBefore-elsewhere, IsOpenFrom, IsOpenFrom-answered, over_answers-until}
 use Rattle.core_machine.proofs.Refines.Owners.{IsNewAnswer, grown, length-grown, state-grown, told-within}
@@ -18,13 +18,13 @@ pub StandsForClient-other : {s : Job} {A B : Answering} {now n : ℕ} {o : OpLin
     {x y : OwnedPath} {k : ClientPath} → IsNewAnswer s A now n o a B
     → own_at s r p n ≡ None → Grows n commits x y → StandsForOwner s A now x → StandsForClient s A r p x k → StandsForClient s B r p y k
 StandsForClient-other {s} {A} {B} {n} {a} {commits} {r} {p} {x} {k} h none grows owned stands =
-    let agree = AgreeBefore-elsewhere s r p A B n a (end_of s) h.adds none in
+    let agree = AgreeBefore-elsewhere s r p A B n a (script_end s) h.adds none in
     let longer = length-grown x.journal.items n commits in
     record {
-      opened = stands.opened ∙ over_answers-agree _ _ s r p A B (end_of s) agree;
-      pending = stands.pending ∙ over_answers-agree _ _ s r p A B (end_of s) agree;
+      opened = stands.opened ∙ over_answers-agree _ _ s r p A B (script_end s) agree;
+      pending = stands.pending ∙ over_answers-agree _ _ s r p A B (script_end s) agree;
       extents = stands.extents;
-      seen = stands.seen ∙ over_answers-agree _ _ s r p A B (end_of s) agree;
+      seen = stands.seen ∙ over_answers-agree _ _ s r p A B (script_end s) agree;
       within = (let size = ap length grows.journal in let was = stands.within in omega arith);
       known = stands.known ∙ ap known_of (state-grown x.journal.items k.noted.version commits h.adds h.next owned.answered stands.within
           ∙ ap (λ (j : List ℕ). state s B j k.noted.version) (sym grows.journal));
@@ -36,20 +36,20 @@ StandsForClient-other {s} {A} {B} {n} {a} {commits} {r} {p} {x} {k} h none grows
 pub record IsOwn (s : Job) (A : Answering) (r : ℕ) (p : List ℕ) (n : ℕ) (o : OpLine) : Type 0 where
   pub own : own_at s r p n ≡ Some o.op
   pub from : IsOpenFrom s r p A n
-  pub within : n < end_of s
+  pub within : n < script_end s
 
 -- its answer is one step more
 over_answers-own : {X : Type 0} (step : Op → Answer → ℕ → X
     → X) (x : X) {s : Job} {A B : Answering} {r : ℕ} {p : List ℕ} {n : ℕ} {o : OpLine} {a : Answer}
-    → AddsAnswer A n a B → IsOwn s A r p n o → over_answers step x s B r p (end_of s)
-    ≡ step o.op a n (over_answers step x s A r p (end_of s))
+    → AddsAnswer A n a B → IsOwn s A r p n o → over_answers step x s B r p (script_end s)
+    ≡ step o.op a n (over_answers step x s A r p (script_end s))
 over_answers-own step x {s} {A} {B} {r} {p} {n} {o} {a} adds own =
     let lt = own.within in
-    over_answers-until step x s r p B (suc n) (end_of s) (omega arith) (IsOpenFrom-answered s r p A B n a adds own.from)
+    over_answers-until step x s r p B (suc n) (script_end s) (omega arith) (IsOpenFrom-answered s r p A B n a adds own.from)
     ∙ ap (λ q. one_more step q (B n) n (over_answers step x s B r p n)) own.own
     ∙ ap (λ q. one_more step (Some o.op) q n (over_answers step x s B r p n)) adds.added
     ∙ ap (step o.op a n) (sym (over_answers-agree step x s r p A B n (AgreeBefore-next s r p n adds (omega arith)))
-    ∙ sym (over_answers-until step x s r p A n (end_of s) (omega arith) own.from))
+    ∙ sym (over_answers-until step x s r p A n (script_end s) (omega arith) own.from))
 
 pub StandsForClient-own : {s : Job} {A B : Answering} {now n : ℕ} {o : OpLine} {a : Answer} {r : ℕ} {p : List ℕ} {x y : OwnedPath}
     {k l : ClientPath} → IsNewAnswer s A now n o a B → IsOwn s A r p n o

@@ -5,7 +5,7 @@ use Rattle.fs_types.proofs.Common.{length-replicate, get_or-replicate, recursion
 use Rattle.fs_types.proofs.Common.{get_or_from_slice_get}
 use Rattle.fs_script.specs.Vocabulary.{Given, answer_at, Job, Answering, ArePaths}
 use Rattle.core_machine.specs.Vocabulary.{OwnedPath, ClientPath, PathState, IsFreshOwner, IsFreshClient, IsFreshPath, HasClients, IsFirst}
-use Rattle.core_machine.specs.Vocabulary.{Places, client_at, moment_of, Holds, Stands, StandsForOwner, StandsForClient, end_of}
+use Rattle.core_machine.specs.Vocabulary.{Places, client_at, moment_of, Holds, Stands, StandsForOwner, StandsForClient, script_end}
 use Rattle.core_machine.proofs.Refines.Answers.{over_answers-until}
 use Rattle.core_machine.proofs.Refines.Journals.{journal_kept}
 
@@ -18,10 +18,10 @@ owner-fresh s now fresh = grind (arith, common_steps)
 client-fresh : (s : Job) (r : ℕ) (p : List ℕ) {x : OwnedPath} {k : ClientPath} → IsFreshOwner x → IsFreshClient k
     → StandsForClient s none r p x k
 client-fresh s r p owned fresh = record {
-  opened = fresh.is_open ∙ sym (over_answers-until _ _ s r p none 0 (end_of s) (omega arith) (λ _ _ _. refl));
-  pending = rw fresh.pending refl ∙ sym (over_answers-until _ _ s r p none 0 (end_of s) (omega arith) (λ _ _ _. refl));
+  opened = fresh.is_open ∙ sym (over_answers-until _ _ s r p none 0 (script_end s) (omega arith) (λ _ _ _. refl));
+  pending = rw fresh.pending refl ∙ sym (over_answers-until _ _ s r p none 0 (script_end s) (omega arith) (λ _ _ _. refl));
   extents = rw fresh.pending tt;
-  seen = ap (λ n. n.version) fresh.noted ∙ sym (over_answers-until _ _ s r p none 0 (end_of s) (omega arith) (λ _ _ _. refl));
+  seen = ap (λ n. n.version) fresh.noted ∙ sym (over_answers-until _ _ s r p none 0 (script_end s) (omega arith) (λ _ _ _. refl));
   within = (let start = ap (λ n. n.version) fresh.noted in omega arith);
   known = rw (owned.journal, fresh.noted) refl;
 }

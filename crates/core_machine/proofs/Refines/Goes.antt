@@ -11,18 +11,18 @@ use Rattle.core_machine.proofs.Programs.NextLines.{next_in-within}
 use Rattle.core_machine.proofs.Refines.Ready.{ready-kept}
 
 -- client r, whose next line is n, goes in the run's phase
-pub record Goes (s : Job) (turns : Places) (r n : ℕ) : Type 0 where
+pub record GoesNow (s : Job) (turns : Places) (r n : ℕ) : Type 0 where
   pub within : r < s.shape.clients
   pub next : slice_get (program s r) (slice_index turns.places r) ≡ Some n
   pub now : phase s n ≡ turns.phase
 
 pub goes-kept : {s : Job} {paths : List (List ℕ)} {states : List PathState} {answers : Given} {turns : Places} (r n : ℕ)
-    → Holds s paths states answers turns → Contains (going turns) r → next_in turns r ≡ Some n → Goes s turns r n
+    → Holds s paths states answers turns → Contains (going turns) r → next_in turns r ≡ Some n → GoesNow s turns r n
 goes-kept {turns} r n held has next =
     let goes = Goes-from_Contains turns r has in
     let same = same_Some goes.0 n (sym goes.1.next ∙ next) in
     let clients = subst HasClients (sym held.same) held.job in
-    subst (λ j. Goes j turns r n) held.same
+    subst (λ j. GoesNow j turns r n) held.same
     (record { within = next_in-within turns r n clients next; next = next; now = ap (phase turns.job) (sym same) ∙ goes.1.of_phase })
 
 -- a client that is ready goes, and has a next line; memory didn't run out
@@ -34,7 +34,7 @@ ready-going s paths states answers {turns} false r holds phases has =
     (refl, subst (λ xs. Contains xs r) (ready-kept (holds refl) phases) has)
 
 pub goes-some : {s : Job} {paths : List (List ℕ)} {states : List PathState} {answers : Given} {turns : Places} (r : ℕ)
-    → Holds s paths states answers turns → Contains (going turns) r → (n : ℕ) × Goes s turns r n
+    → Holds s paths states answers turns → Contains (going turns) r → (n : ℕ) × GoesNow s turns r n
 goes-some {s} {paths} {states} {answers} {turns} r held has =
     let line = Goes-from_Contains turns r has in
     (line.0, goes-kept r line.0 held has line.1.next)
@@ -64,7 +64,7 @@ events_left-is s paths states answers turns spent i = sum_by (λ q. length (prog
     (range_with_len 0 s.shape.clients)
 
 pub nearer : {s : Job} (paths : List (List ℕ)) (states states' : List PathState) (answers answers' : Given) {turns : Places} (spent : Bool)
-    {r n : ℕ} → Goes s turns r n → length turns.places ≡ s.shape.clients
+    {r n : ℕ} → GoesNow s turns r n → length turns.places ≡ s.shape.clients
     → events_left (moment_of s paths states' answers' (after_line turns r) false) < events_left
     (moment_of s paths states answers turns spent)
 nearer {s} paths states states' answers answers' {turns} spent {r} {n} goes size =

@@ -6,7 +6,7 @@ use Rattle.fs_types.proofs.Common.{bytes_eq-Decides}
 use Rattle.fs_script.specs.Vocabulary.{Answer, Given, answer_at, put_answer, Job, op_at, own_op, rank_in, phase, program, Answering}
 use Rattle.fs_script.specs.Vocabulary.{pending}
 use Rattle.core_machine.specs.Vocabulary.{OpLine, PathState, ClientPath, AreSound, pending_lines, Follows, kept_event, Places}
-use Rattle.core_machine.specs.Vocabulary.{IsAnsweredUpTo, after_line, Holds, Stands, StandsForOwner, StandsForClient, end_of}
+use Rattle.core_machine.specs.Vocabulary.{IsAnsweredUpTo, after_line, Holds, Stands, StandsForOwner, StandsForClient, script_end}
 use Rattle.fs_script.proofs.CallerLemmas.{AddsAnswer-put, own_op-rank, op_at-within, program-op}
 use Rattle.core_machine.proofs.Paths.{place_unique}
 use Rattle.core_machine.proofs.Places.{StandsNext, comes_next, upto-own, upto-other}
@@ -89,7 +89,7 @@ module _ {s : Job} {paths : List (List ℕ)} {states : List PathState} {answers 
   pends : pending_lines t.client ≡ pending s given t.line.rank t.line.path t.number
   pends =
       let lt = is_own.within in
-      client_stood.pending ∙ over_answers-until _ _ s t.line.rank t.line.path given t.number (end_of s) (omega arith) is_own.from
+      client_stood.pending ∙ over_answers-until _ _ s t.line.rank t.line.path given t.number (script_end s) (omega arith) is_own.from
 
   owner-after : StandsForOwner s given_then turns.phase t.then.owned
   owner-after = StandsForOwner-own is_answer pends t.follows t.sound stood.owned

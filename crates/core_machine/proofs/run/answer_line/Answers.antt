@@ -3,14 +3,14 @@ use Rattle.fs_types.proofs.Common.{refl, sym, ap, subst, arith}
 use Rattle.fs_script.specs.Vocabulary.{Given, put_answer}
 use Rattle.core_machine.specs.Vocabulary.{PathState, FollowsFor, IsSoundFor, moment_of, after_line, Holds, step}
 use Rattle.fs_script.proofs.CallerLemmas.{op_at-within, program-op}
-use Rattle.core_machine.proofs.Refines.Goes.{Goes, goes-kept}
+use Rattle.core_machine.proofs.Refines.Goes.{GoesNow, goes-kept}
 use Rattle.core_machine.proofs.Refines.Reads.{Stands-read}
 use Rattle.core_machine.proofs.Refines.Steps.{Answered, Holds-after}
 use Rattle.core_machine.proofs.Refines.Moments.{step-is}
 use Rattle.core_machine.proofs.run.answer_line.Goals.{After-next-n, After-set}
 use Rattle.core_machine.proofs.run.answer_line.Goals as goal
 
-goes : (c : After-next-n) → Goes c.args.s.now c.args.turns.now c.args.r c.next-n.result
+goes : (c : After-next-n) → GoesNow c.args.s.now c.args.turns.now c.args.r c.next-n.result
 goes c = goes-kept c.args.r c.next-n.result c.requires.holds c.requires.going c.next-n.ensures.next
 
 pub operation-o-requires : goal.operation-o-requires
