@@ -51,7 +51,7 @@ end
 ";
 
 // Scripts, picks, and the text of the report under them.
-const RUNS: &[(&[u8], &[u32], &[u8])] = &[
+const RUNS: [(&[u8], &[u32], &[u8]); 6] = [
     (ONE_CLIENT, &[], ONE_CLIENT_REPORT),
     (ONE_CLIENT, &[0], ONE_CLIENT_REPORT),
     (ONE_CLIENT, &[7, u32::MAX], ONE_CLIENT_REPORT),
