@@ -1,72 +1,84 @@
--- Files under their gfids, in their owners' lists.
-use Rattle.std.proofs.lemmas.List.Elements.{Contains-push_cases}
-use Rattle.fs_types.proofs.Common.{◌≡◌, ℕ, ◌+◌, ◌⊎◌, ◌&&◌, inl, inr, Bool, true, false, if◌then◌else◌, List, [], ◌∷◌, ◌++◌, get_or}
-use Rattle.fs_types.proofs.Common.{slice_get, Option, Some, None, Contains, Vec, nat_eq, set, refl, sym, subst, ◌∙◌, arith, false≢true}
-use Rattle.fs_types.proofs.Common.{Contains-append_left, Contains-push, Decides-eqb, slice_get_within}
-use Rattle.std.specs.Prelude.{◌↔◌, unwrap_or}
+-- Files under their keys: what a server finds once it keeps something else for one of them.
+use Rattle.fs_types.proofs.Common.{zero, suc, ◌<◌, ◌≤◌, none-some, ◌++◌, [], length, map, take, drop, slice_get, None, arith, same_Some}
+use Rattle.fs_types.proofs.Common.{◌≡◌, ℕ, Bool, true, false, ◌&&◌, if◌then◌else◌, List, ◌∷◌, Option, Some, nat_eq, bytes_eq, refl, sym, ap}
+use Rattle.fs_types.proofs.Common.{subst, ◌∙◌, true≢false, Decides-eqb, bytes_eq-Decides}
 use Rattle.std.specs.Bool.{Decides}
-use Rattle.std.specs.Option.{option_map_or}
-use Rattle.std.proofs.lemmas.Bool.Decides.{Decides-and, eqb_tells}
-use Rattle.std.proofs.lemmas.Grind.{common_steps}
-use Rattle.indexmap.specs.IndexMap.{IndexMap, get, Updates, UpdatesBy}
-use Rattle.placement.specs.Placement.{gfid, owner}
-use Rattle.core_machine.specs.OwnerFiles.{places, AreFiled, AddsPlace, AddsToList, AddsFile}
-use Rattle.core_machine.specs.declared.owner_files.OwnerFiles.{OwnerFiles}
-use Rattle.core_machine.proofs.Refines.Journals.{slice_get-set_same, slice_get-set_other}
+use Rattle.std.specs.Map.{values_of, IsKeyTest, AreApart, KeepsOthers}
+use Rattle.std.proofs.lemmas.Bool.Decides.{Decides-and}
+use Rattle.indexmap.specs.Layout.{set_value_at}
+use Rattle.indexmap.specs.IndexMap.{IndexMap, get_by, UpdatesBy}
+use Rattle.core_machine.specs.declared.owner_files.FileKey.{FileKey}
+use Rattle.core_machine.specs.declared.path_state.OwnedPath.{OwnedPath}
+use Rattle.core_machine.specs.Kept.{told}
+use Rattle.core_machine.specs.OwnerFiles.{names_key}
 
--- a list that begins with an entry's places, or with none
-items-unwrap_or : {A : Type 0} (r : Option (Vec ℕ A)) (none : Vec ℕ A) → none.items ≡ []
-    → (unwrap_or r none).items ≡ option_map_or (λ v. v.items) r []
-items-unwrap_or None none empty = empty
-items-unwrap_or (Some v) none empty = refl
+-- an entry, once all clients were told of its file
+abbrev pub told_entry : FileKey × OwnedPath → FileKey × OwnedPath
+told_entry e = (e.0, told e.1)
 
-module _ {A S : Type 0} where
-  -- an entry that is taken out and put back with one place more
-  pub AddsPlace-from_updates : (old mid new : IndexMap ℕ (Vec ℕ A) S) (key place : ℕ) (none more : Vec ℕ A)
-      → UpdatesBy nat_eq (nat_eq key) old mid None → Updates nat_eq mid new key (Some more) → none.items ≡ []
-      → more.items ≡ (unwrap_or (get nat_eq old key) none).items ++ place ∷ [] → AddsPlace old new key place
-  AddsPlace-from_updates old mid new key place none more out back empty pushed g =
-      let b = back.0 g in let o = out.0 g in let u = items-unwrap_or (get nat_eq old key) none empty in
-      elim (eqb_tells key g) [
-        | inl same ↦ grind (arith, common_steps, b, o, same, pushed, u)
-        | inr other ↦ grind (arith, common_steps, b, o, other)
-      ]
+-- keys of one gfid and one path are one
+abbrev pub same_key : FileKey → FileKey → Bool
+same_key x y = names_key x.gfid x.path.items y
 
-  -- one list with one place more, among the others
-  pub AddsToList-from_set : (lists : List (IndexMap ℕ (Vec ℕ A) S)) (at key place : ℕ) (old new : IndexMap ℕ (Vec ℕ A) S)
-      → slice_get lists at ≡ Some old → AddsPlace old new key place → AddsToList lists (set lists at new) at key place
-  AddsToList-from_set lists at key place old new is adds o g = elim (eqb_tells at o) [
-    | inl same ↦
-        let a = adds g in let s = slice_get-set_same lists at new (slice_get_within lists at old is) in
-        grind (arith, common_steps, same, a, s, is)
-    | inr other ↦
-        let s = slice_get-set_other lists at o new (λ e. other.1 (sym e)) in grind (arith, common_steps, other.0, s)
-  ]
+-- one gfid and path are another's
+Decides-name : (g h : ℕ) (p q : List ℕ) → Decides (nat_eq g h && bytes_eq p q) ((g ≡ h) × (p ≡ q))
+Decides-name g h p q = Decides-and _ _ (Decides-eqb g h) (bytes_eq-Decides p q)
 
--- what stands in a list that has one place more, if P holds
-Contains-one_more : {P : Type 0} (b : Bool) → Decides b P → (xs : List ℕ) (place i : ℕ)
-    → Contains (if b then xs ++ place ∷ [] else xs) i ↔ (Contains xs i ⊎ (P × (place ≡ i)))
-Contains-one_more true holds xs place i = (
-  λ there. elim (Contains-push_cases xs place i there) [ inl was ↦ inl was | inr here ↦ inr (holds.0 refl, here) ],
-  λ there. elim there [
-    | inl was ↦ Contains-append_left xs (place ∷ []) i was
-    | inr here ↦ subst (Contains (xs ++ place ∷ [])) here.1 (Contains-push xs place)
-  ],
-)
-Contains-one_more false holds xs place i = grind (arith, false≢true)
+-- a look-up by gfid and path is one by a key
+IsKeyTest-names : (g : ℕ) (p : List ℕ) → IsKeyTest same_key (names_key g p)
+IsKeyTest-names g p x y is =
+    let at = (Decides-name g x.gfid p x.path.items).0 is in
+    rw (at.0, at.1) refl
 
--- one path more is filed
-pub AreFiled-more : (servers : ℕ) (ps : List (List ℕ)) (k : ℕ) (old new : OwnerFiles) → AreFiled servers ps k old
-    → AddsFile old new (gfid (get_or ps k [])) k → AreFiled servers ps (k + 1) new
-AreFiled-more servers ps k old new filed added = record {
-  among = added.servers ∙ filed.among;
-  lists = added.lists;
-  homes = λ o g i.
-      let h : ℕ = gfid (get_or ps k []) in
-      let more = Contains-one_more (nat_eq (owner h old.servers) o && nat_eq h g)
-      (Decides-and _ _ (Decides-eqb (owner h old.servers) o) (Decides-eqb h g)) (places old.lists.items o g) k i in
-      let a = added.adds o g in let f = filed.homes o g i in let n = filed.among in
-      grind (arith, a, f, n, more);
-}
+-- two look-ups that differ find different keys
+AreApart-names : (g h : ℕ) (p q : List ℕ) → (nat_eq h g && bytes_eq q p) ≡ false → AreApart (names_key g p) (names_key h q)
+AreApart-names g h p q other k is = by (names_key h q k) refl
+  where
+    by : (b : Bool) → names_key h q k ≡ b → names_key h q k ≡ false
+    by false e = e
+    by true e =
+        let here = (Decides-name g k.gfid p k.path.items).0 is in
+        let there = (Decides-name h k.gfid q k.path.items).0 e in
+        let same = (Decides-name h g q p).1 (there.0 ∙ sym here.0, there.1 ∙ sym here.1) in
+        absurd (true≢false (sym same ∙ other))
 
-pub ruleset added_places = (AddsPlace-from_updates)
+module _ {S : Type 0} where
+  -- what is found where something is kept under one name
+  pub found-after : (old new : IndexMap FileKey OwnedPath S) (gfid : ℕ) (p : List ℕ) (x : OwnedPath)
+      → UpdatesBy same_key (names_key gfid p) old new (Some x) → (g : ℕ) (q : List ℕ)
+      → get_by (names_key g q) new ≡ (if nat_eq g gfid && bytes_eq q p then Some x else get_by (names_key g q) old)
+  unfolding KeepsOthers
+  found-after old new gfid p x updates g q = by (nat_eq g gfid && bytes_eq q p) refl
+    where
+      by : (b : Bool) → (nat_eq g gfid && bytes_eq q p) ≡ b
+          → get_by (names_key g q) new ≡ (if nat_eq g gfid && bytes_eq q p then Some x else get_by (names_key g q) old)
+      by true e =
+          let same = (Decides-name g gfid q p).0 e in
+          ap (λ (h : ℕ). get_by (names_key h q) new) same.0 ∙ ap (λ (r : List ℕ). get_by (names_key gfid r) new) same.1 ∙ updates.1
+          ∙ sym (ap (λ b. if b then Some x else get_by (names_key g q) old) e)
+      by false e =
+          updates.3 (names_key g q) (IsKeyTest-names g q) (AreApart-names gfid g p q e)
+          ∙ sym (ap (λ b. if b then Some x else get_by (names_key g q) old) e)
+
+-- ---- all files are told of, one after the other
+
+abbrev pub told_before : ℕ → List (FileKey × OwnedPath) → List (FileKey × OwnedPath)
+told_before i es = map told_entry (take i es) ++ drop i es
+
+pub told-more : (es : List (FileKey × OwnedPath)) (i : ℕ) (x : OwnedPath) → slice_get (values_of (told_before i es)) i ≡ Some x
+    → set_value_at (told_before i es) i (told x) ≡ told_before (suc i) es
+told-more [] zero x is = absurd cc
+told-more [] (suc i) x is = absurd cc
+told-more (e ∷ es) zero x is = ap (λ y. (e.0, told y) ∷ es) (sym (same_Some e.1 x is))
+told-more (e ∷ es) (suc i) x is = ap (λ rest. told_entry e ∷ rest) (told-more es i x is)
+
+pub told-there : (es : List (FileKey × OwnedPath)) (i : ℕ) → i < length es → slice_get (values_of (told_before i es)) i ≡ None → ⊥
+told-there [] i lt none = absurd (omega arith)
+told-there (e ∷ es) zero lt none = none-some e.1 (sym none)
+told-there (e ∷ es) (suc i) lt none = told-there es i (omega arith) none
+
+pub told-all : (es : List (FileKey × OwnedPath)) (i : ℕ) → length es ≤ i → told_before i es ≡ map told_entry es
+told-all [] zero le = refl
+told-all [] (suc i) le = refl
+told-all (e ∷ es) zero le = absurd (omega arith)
+told-all (e ∷ es) (suc i) le = ap (λ rest. told_entry e ∷ rest) (told-all es i (omega arith))

@@ -2,23 +2,15 @@
 use Rattle.std.proofs.lemmas.List.Elements.{Contains-push_cases}
 use Rattle.std.specs.Ordering.{ordering_reverse}
 use Rattle.std.specs.List.Sorted.{IsStrictlySortedBy}
-use Rattle.fs_types.proofs.Common.{◌≡◌, ℕ, zero, suc, ◌+◌, ◌-◌, ◌<◌, ◌≤◌, Bool, true, false, cond, ltb, ltb-false, List, [], ◌∷◌, ◌++◌}
+use Rattle.fs_types.proofs.Common.{◌≡◌, ℕ, zero, suc, ◌+◌, ◌-◌, ◌<◌, ◌≤◌, Bool, true, false, cond, ltb, ltb-false, not, List, [], ◌∷◌, ◌++◌}
 use Rattle.fs_types.proofs.Common.{length, take, get_or, position, Option, Some, None, Contains, Vec, nat_eq, refl, sym, ap, subst, ◌∙◌}
 use Rattle.fs_types.proofs.Common.{arith, true≢false, inl, inr, fold, if◌then◌else◌, IfSome, IfNone, ◌⊎◌, ◌||◌, AllByRecursion, slice_get}
-use Rattle.fs_types.proofs.Common.{list_any, position_or_len, IsDistinct, IsSorted, IsPermutation, bytes_eq, IsTotalOrder}
+use Rattle.fs_types.proofs.Common.{list_any, prefix_len, position_or_len, IsDistinct, IsSorted, IsPermutation, bytes_eq, IsTotalOrder}
 use Rattle.fs_types.proofs.Common.{unsigned_ties, slice_cmp, pointwise, lists_ties, nat_cmp, is_lt, is_eq, eq_by_cmp}
-use Rattle.fs_types.proofs.Common.{Ordering, Less, Equal, Greater, nat_list_cmp_total, on_total}
+use Rattle.fs_types.proofs.Common.{Ordering, Less, Equal, Greater, nat_list_cmp_total, nat_list_eq_equiv, on_total}
 use Rattle.fs_types.proofs.Common.{sorted_from_all_adjacent, apart_from_distinct, sorted_head, sorted_tail, map_push, length-map}
 use Rattle.fs_types.proofs.Common.{Contains-append_left, IsPermutation-map, IsPermutation-sym, Contains-permutation}
 use Rattle.fs_types.proofs.Common.{position-Some, fails_before_first, slice_get-get_or, bytes_eq-Decides}
-use Rattle.fs_types.proofs.Common.{slice_get_within, get_or_from_slice_get, same_Some}
-use Rattle.std.specs.Bool.{Decides}
-use Rattle.std.specs.Option.{option_map}
-use Rattle.std.proofs.lemmas.Option.{slice_get-map}
-use Rattle.placement.specs.Placement.{gfid, owner}
-use Rattle.core_machine.specs.OwnerFiles.{places, IsHome, AreFiled}
-use Rattle.core_machine.specs.declared.owner_files.OwnerFiles.{OwnerFiles}
-use Rattle.core_machine.proofs.Paths.{place_unique}
 use Rattle.indexmap.specs.IndexSet.{insert_key}
 use Rattle.fs_script.specs.Vocabulary.{Job, Names, operation, op_at, AreRising, ArePaths}
 use Rattle.core_machine.specs.Vocabulary.{Line, OpLine, texts, with_path, with_op, with_path_of, paths_of}
@@ -48,18 +40,21 @@ module _ {A : Type 0} where
       → with_path (texts vs) p ≡ texts vs
   with_path-there vs p there = ap (λ b. if b then texts vs else texts vs ++ p ∷ []) (list_any-texts p vs ∙ there)
 
-  -- the text at a vector's place
-  pub texts-at : (vs : List (Vec ℕ A)) (i : ℕ) (v : Vec ℕ A) (p : List ℕ) → i < length vs → v ≡ get_or vs i v
-      → Decides (bytes_eq v.items p) (slice_get (texts vs) i ≡ Some p)
-  texts-at vs i v p within is =
-      let at : slice_get (texts vs) i ≡ Some v.items = slice_get-map (λ v. v.items) vs i
-      ∙ ap (option_map (λ v. v.items)) (slice_get-get_or vs i v within ∙ ap Some (sym is)) in
-      (λ e. at ∙ ap Some ((bytes_eq-Decides v.items p).0 e), λ e. (bytes_eq-Decides v.items p).1 (same_Some v.items p (sym at ∙ e)))
+  -- as many texts as vectors stand before the bytes
+  prefix_len-texts : (p : List ℕ) (vs : List (Vec ℕ A)) → prefix_len (λ q. not (bytes_eq q p)) (texts vs)
+      ≡ prefix_len (λ v. not (pointwise nat_eq p v.items)) vs
+  prefix_len-texts p [] = refl
+  prefix_len-texts p (v ∷ vs) =
+      ap (λ b. cond (not b) (1 + prefix_len (λ q. not (bytes_eq q p)) (texts vs)) 0) (nat_list_eq_equiv.symm v.items p)
+      ∙ ap (λ n. cond (not (pointwise nat_eq p v.items)) (1 + n) 0) (prefix_len-texts p vs)
 
-  -- no text stands where no vector does
-  pub texts-past : (vs : List (Vec ℕ A)) (i : ℕ) (p : List ℕ) → length vs ≤ i → slice_get (texts vs) i ≡ Some p → ⊥
-  texts-past vs i p past at =
-      let within : i < length (texts vs) = slice_get_within (texts vs) i p at in omega (arith, within, past, length-map vs (λ v. v.items))
+  -- the place of the bytes, by the vectors
+  pub position-texts : (p : List ℕ) (vs : List (Vec ℕ A))
+      → position (λ v. pointwise nat_eq p v.items) vs ≡ position (λ q. bytes_eq q p) (texts vs)
+  position-texts p vs = sym (
+      ap (λ n. cond (ltb n (length (texts vs))) (Some n) None) (prefix_len-texts p vs)
+      ∙ ap (λ m. cond (ltb (prefix_len (λ v. not (pointwise nat_eq p v.items)) vs) m)
+      (Some (prefix_len (λ v. not (pointwise nat_eq p v.items)) vs)) None) (length-map vs (λ v. v.items)))
 
   -- what is below each vector's bytes is below each text
   above_texts : (p : List ℕ) (vs : List (Vec ℕ A)) → AllByRecursion (λ v. slice_cmp nat_cmp p v.items ≡ Less) vs
@@ -128,40 +123,6 @@ absent-from_position ps p = by (ltb (position_or_len (λ q. bytes_eq q p) ps) (l
         let past : length ps ≤ position_or_len (λ q. bytes_eq q p) ps = ltb-false _ _ e in
         true≢false (sym ((bytes_eq-Decides (get_or ps there.0 p) p).1 there.2)
         ∙ fails_before_first (λ q. bytes_eq q p) ps there.0 p (omega (arith, past, there.1)))
-
--- a path that stands at none of the places that its owner keeps for it isn't among the paths
-pub absent-from_places : (ps : List (List ℕ)) (files : OwnerFiles) (p : List ℕ) (r : Option ℕ) → AreFiled files.servers ps (length ps) files
-    → {l : List ℕ} → IfNone r ((i : ℕ) → Contains l i → slice_get ps i ≡ Some p → ⊥)
-    → l ≡ places files.lists.items (owner (gfid p) files.servers) (gfid p) → IfNone r (Contains ps p → ⊥)
-absent-from_places ps files p (Some i) filed none kept = tt
-absent-from_places ps files p None filed none kept = λ there.
-    let at : slice_get ps there.0 ≡ Some p = slice_get-get_or ps there.0 p there.1 ∙ ap Some there.2 in
-    let home = subst (λ q. IsHome files.servers q (owner (gfid p) files.servers) (gfid p))
-    (sym (get_or_from_slice_get ps there.0 p [] at)) (refl, refl) in
-    none there.0 (subst (λ l. Contains l there.0) (sym kept)
-    ((filed.homes (owner (gfid p) files.servers) (gfid p) there.0).1 (there.1, home))) at
-
--- a place that is found is a place of the paths
-pub within-from_found : (ps : List (List ℕ)) (p : List ℕ) (r : Option ℕ) → IfSome r (λ i. slice_get ps i ≡ Some p)
-    → IfSome r (λ i. i < length ps)
-within-from_found ps p None there = tt
-within-from_found ps p (Some i) there = slice_get_within ps i p there
-
--- the place that is found is the first of the path
-pub position-from_found : (ps : List (List ℕ)) (p : List ℕ) (r : Option ℕ) → AreRising ps → IfSome r (λ i. slice_get ps i ≡ Some p)
-    → IfNone r (Contains ps p → ⊥) → r ≡ position (λ q. bytes_eq q p) ps
-position-from_found ps p r rising found absent =
-    by r found absent (position (λ q. bytes_eq q p) ps) (slice_get-position ps p) (absent-from_position ps p)
-  where
-    member : (i : ℕ) → slice_get ps i ≡ Some p → Contains ps p
-    member i at = (i, slice_get_within ps i p at, get_or_from_slice_get ps i p p at)
-
-    by : (r : Option ℕ) → IfSome r (λ i. slice_get ps i ≡ Some p) → IfNone r (Contains ps p → ⊥)
-        → (q : Option ℕ) → IfSome q (λ i. slice_get ps i ≡ Some p) → IfNone q (Contains ps p → ⊥) → r ≡ q
-    by None found absent None first none = refl
-    by None found absent (Some j) first none = absurd (absent (member j first))
-    by (Some i) found absent None first none = absurd (none (member i found))
-    by (Some i) found absent (Some j) first none = ap Some (place_unique ps i j p rising found first)
 
 -- ---- the paths of lines
 -- one line more brings its path
@@ -286,7 +247,3 @@ pub ruleset added_paths = (with_path-there)
 pub ruleset named_paths = (paths_of-more)
 
 pub ruleset sorted_paths = (AreRising-from_sort, ArePaths-from_sort)
-
-pub ruleset texts_at = (texts-at, texts-past)
-
-pub ruleset found_places = (position-from_found, within-from_found, absent-from_places)

@@ -4,6 +4,7 @@ pub mod Answers
 pub mod Owners
 pub mod Clients
 pub mod Journals
+pub mod States
 pub mod Now
 pub mod Steps
 pub mod Moments

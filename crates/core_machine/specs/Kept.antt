@@ -5,7 +5,6 @@ use Rattle.core_machine.specs.declared.extent.Extent.{Extent}
 use Rattle.core_machine.specs.declared.noted.Noted.{Noted}
 use Rattle.core_machine.specs.declared.path_state.OwnedPath.{OwnedPath}
 use Rattle.core_machine.specs.declared.path_state.ClientPath.{ClientPath}
-use Rattle.core_machine.specs.declared.path_state.PathState.{PathState}
 use Rattle.core_machine.specs.Extents.{AreExtents, lines_of_extents, bytes_of_extents}
 use Rattle.core_machine.specs.Event.{Known, PathNow}
 
@@ -42,6 +41,11 @@ pub record AreSound (s : Job) (x : OwnedPath) (k : ClientPath) : Type 0 where
   pub written : IfSome x.file (λ xs. AreExtents s xs.items)
   pub pending : AreExtents s k.pending.items
 
+-- all that is kept for a path: by its owner, and by each client
+pub record PathState : Type 0 where
+  pub owned : OwnedPath
+  pub clients : List ClientPath
+
 -- nothing was committed, and nothing is known of the path
 pub record IsFreshOwner (x : OwnedPath) : Type 0 where
   pub journal : x.journal.items ≡ []
@@ -54,16 +58,25 @@ pub record IsFreshClient (k : ClientPath) : Type 0 where
   pub pending : k.pending.items ≡ []
   pub noted : k.noted ≡ record { version = 0; exists = false }
 
+-- they are so many clients, none of which did anything
+pub record AreFreshClients {A : Type 0} (count : ℕ) (ks : Vec ClientPath A) : Type 0 where
+  pub sized : length ks.items ≡ count
+  pub fresh : All IsFreshClient ks.items
+
 -- what all clients are told of a path at the end of a phase: its version, and whether there is a file
 abbrev pub board_now : OwnedPath → Noted
 board_now x = record { version = length x.journal.items; exists = is_some x.file }
 
+-- the owner's part, once they were told
+abbrev pub told : OwnedPath → OwnedPath
+told x = record x { board = board_now x }
+
 -- the path, once they were told
 abbrev pub with_board : PathState → PathState
-with_board x = record { owned = record x.owned { board = board_now x.owned }; clients = x.clients }
+with_board x = record { owned = told x.owned; clients = x.clients }
 
 -- nothing was committed to the path, and of so many clients none did anything
 pub record IsFreshPath (count : ℕ) (x : PathState) : Type 0 where
   pub owned : IsFreshOwner x.owned
-  pub sized : length x.clients.items ≡ count
-  pub clients : All IsFreshClient x.clients.items
+  pub sized : length x.clients ≡ count
+  pub clients : All IsFreshClient x.clients

@@ -1,12 +1,13 @@
 pub mod Extents
 pub mod PathTable
-pub mod OwnerFiles
 pub mod Doing
 pub mod Moment
 pub mod Event
 pub mod Events
 pub mod Step
 pub mod Kept
+pub mod OwnerFiles
+pub mod States
 pub mod Follows
 pub mod Turns
 pub mod Program

@@ -1,7 +1,7 @@
 -- The moment that what the core keeps stands for.
 use Rattle.std.specs.Prelude.{ℕ, Bool, List, map, zip}
 use Rattle.fs_script.specs.Vocabulary.{Given, Job}
-use Rattle.core_machine.specs.declared.path_state.PathState.{PathState}
+use Rattle.core_machine.specs.Kept.{PathState}
 use Rattle.core_machine.specs.Doing.{nothing}
 use Rattle.core_machine.specs.Moment.{Client, Moment}
 use Rattle.core_machine.specs.Turns.{Places}

@@ -1,45 +1,63 @@
--- Where each path's file is kept: under its gfid, in its owner's list.
-use Rattle.std.specs.Prelude.{◌≡◌, ℕ, ◌<◌, ◌≤◌, ◌↔◌, ◌&&◌, if◌then◌else◌, List, [], ◌∷◌, ◌++◌, Vec, length, slice_get, get_or, Contains}
-use Rattle.std.specs.Prelude.{nat_eq}
-use Rattle.std.specs.Option.{option_map_or}
-use Rattle.indexmap.specs.IndexMap.{IndexMap, get}
+-- What the servers keep for the files that they own: each under its gfid and its path together.
+use Rattle.std.specs.Prelude.{◌≡◌, ℕ, Bool, ◌&&◌, List, Option, Some, None, IsSome, Contains, nat_eq, length, slice_get, if◌then◌else◌}
+use Rattle.std.specs.Str.{bytes_eq}
+use Rattle.indexmap.specs.IndexMap.{get_by}
 use Rattle.placement.specs.Placement.{gfid, owner}
+use Rattle.core_machine.specs.declared.owner_files.FileKey.{FileKey}
 use Rattle.core_machine.specs.declared.owner_files.OwnerFiles.{OwnerFiles}
+use Rattle.core_machine.specs.declared.path_state.OwnedPath.{OwnedPath}
+use Rattle.core_machine.specs.Kept.{IsFreshOwner}
 
--- the places under a gfid in one owner's list
-abbrev pub places_under : {A S : Type 0} → IndexMap ℕ (Vec ℕ A) S → ℕ → List ℕ
-places_under list g = option_map_or (λ v. v.items) (get nat_eq list g) []
+-- the key is of this gfid and this path
+abbrev pub names_key : ℕ → List ℕ → FileKey → Bool
+names_key gfid p k = nat_eq gfid k.gfid && bytes_eq p k.path.items
 
--- the places under a gfid in the list of owner o
-abbrev pub places : {A S : Type 0} → List (IndexMap ℕ (Vec ℕ A) S) → ℕ → ℕ → List ℕ
-places lists o g = option_map_or (λ list. places_under list g) (slice_get lists o) []
+-- what a server keeps for the path with this gfid, if it has such a file
+abbrev pub file_in : OwnerFiles → ℕ → List ℕ → Option OwnedPath
+file_in list gfid p = get_by (names_key gfid p) list.files
 
--- there are servers, and a list for each
-abbrev pub HasLists : OwnerFiles → Type 0
-HasLists files = (1 ≤ files.servers) × (length files.lists.items ≡ files.servers)
+abbrev pub file_at : Option OwnerFiles → List ℕ → Option OwnedPath
+file_at None p = None
+file_at (Some list) p = file_in list (gfid p) p
 
--- g is the gfid of the path, and o is its owner, one of so many servers
-abbrev pub IsHome : ℕ → List ℕ → ℕ → ℕ → Type 0
-IsHome servers p o g = (gfid p ≡ g) × (owner g servers ≡ o)
+-- what a path's owner, one of these servers, keeps for it
+abbrev pub owned_at : List OwnerFiles → List ℕ → Option OwnedPath
+owned_at owners p = file_at (slice_get owners (owner (gfid p) (length owners))) p
 
--- the first k of the paths are kept, each place in the list of its path's owner under its path's gfid, and nothing else is
-pub record AreFiled (servers : ℕ) (ps : List (List ℕ)) (k : ℕ) (files : OwnerFiles) : Type 0 where
-  pub among : files.servers ≡ servers
-  pub lists : HasLists files
-  pub homes : (o g i : ℕ) → Contains (places files.lists.items o g) i ↔ ((i < k) × IsHome servers (get_or ps i []) o g)
+-- the server keeps this for one file, and for every other what it kept
+abbrev pub ChangesFile : OwnerFiles → OwnerFiles → ℕ → List ℕ → OwnedPath → Type 0
+ChangesFile old new gfid p x = (g : ℕ) (q : List ℕ)
+    → file_in new g q ≡ (if nat_eq g gfid && bytes_eq q p then Some x else file_in old g q)
 
--- the new list has one place more, under this gfid
-abbrev pub AddsPlace : {A S : Type 0} → IndexMap ℕ (Vec ℕ A) S → IndexMap ℕ (Vec ℕ A) S → ℕ → ℕ → Type 0
-AddsPlace old new gfid place =
-    (g : ℕ) → places_under new g ≡ (if nat_eq gfid g then places_under old g ++ place ∷ [] else places_under old g)
+-- the servers keep this for one path, and for every other what they kept
+pub record ChangesPath (old new : List OwnerFiles) (p : List ℕ) (x : OwnedPath) : Type 0 where
+  pub sized : length new ≡ length old
+  pub changes : (q : List ℕ) → owned_at new q ≡ (if bytes_eq q p then Some x else owned_at old q)
 
--- the new lists have one place more, under this gfid in the list of this owner
-abbrev pub AddsToList : {A S : Type 0} → List (IndexMap ℕ (Vec ℕ A) S) → List (IndexMap ℕ (Vec ℕ A) S) → ℕ → ℕ → ℕ → Type 0
-AddsToList old new o' gfid place = (o g : ℕ)
-    → places new o g ≡ (if nat_eq o' o && nat_eq gfid g then places old o g ++ place ∷ [] else places old o g)
+-- whatever the server keeps for one file now, for every other it keeps what it kept
+abbrev pub ChangesOne : OwnerFiles → OwnerFiles → ℕ → List ℕ → Type 0
+ChangesOne old new gfid p = (x : OwnedPath) × ChangesFile old new gfid p x
 
--- the new files have one place more, under this gfid in the list of its owner
-pub record AddsFile (old new : OwnerFiles) (gfid place : ℕ) : Type 0 where
-  pub servers : new.servers ≡ old.servers
-  pub lists : HasLists new
-  pub adds : AddsToList old.lists.items new.lists.items (owner gfid old.servers) gfid place
+-- the same of the servers, and of a path
+abbrev pub ChangesOnePath : List OwnerFiles → List OwnerFiles → List ℕ → Type 0
+ChangesOnePath old new p = (x : OwnedPath) × ChangesPath old new p x
+
+-- the server has a file on which nothing was committed, and every other as it was
+pub record AddsFile (old new : OwnerFiles) (gfid : ℕ) (p : List ℕ) : Type 0 where
+  pub file : OwnedPath
+  pub fresh : IsFreshOwner file
+  pub changes : ChangesFile old new gfid p file
+
+-- the servers have a path more, on which nothing was committed, and every other as it was
+pub record AddsPath (old new : List OwnerFiles) (p : List ℕ) : Type 0 where
+  pub file : OwnedPath
+  pub fresh : IsFreshOwner file
+  pub changes : ChangesPath old new p file
+
+-- each of the paths is filed, and nothing was committed to it
+abbrev pub AreFresh : List OwnerFiles → List (List ℕ) → Type 0
+AreFresh owners paths = (p : List ℕ) → Contains paths p → (x : OwnedPath) × (owned_at owners p ≡ Some x) × IsFreshOwner x
+
+-- of each of the paths something is kept at its owner
+abbrev pub AreFiled : List OwnerFiles → List (List ℕ) → Type 0
+AreFiled owners paths = (p : List ℕ) → Contains paths p → IsSome (owned_at owners p)

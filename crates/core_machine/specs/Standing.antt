@@ -5,10 +5,9 @@ use Rattle.std.specs.List.{AllByRecursion}
 use Rattle.fs_script.specs.Vocabulary.{Given, answer_at, Job, phase, Answering, pending, state, is_open, seen, ArePaths}
 use Rattle.core_machine.specs.declared.path_state.OwnedPath.{OwnedPath}
 use Rattle.core_machine.specs.declared.path_state.ClientPath.{ClientPath}
-use Rattle.core_machine.specs.declared.path_state.PathState.{PathState}
 use Rattle.core_machine.specs.Event.{known_of}
 use Rattle.core_machine.specs.Extents.{AreExtents}
-use Rattle.core_machine.specs.Kept.{file_of, known_from, pending_lines}
+use Rattle.core_machine.specs.Kept.{PathState, file_of, known_from, pending_lines}
 use Rattle.core_machine.specs.LegalSoFar.{HasClients, IsAnsweredUpTo}
 use Rattle.core_machine.specs.Turns.{Places}
 
@@ -37,8 +36,8 @@ pub record StandsForClient (s : Job) (A : Answering) (r : ℕ) (p : List ℕ) (x
 -- all that is kept for path p
 pub record Stands (s : Job) (A : Answering) (now : ℕ) (p : List ℕ) (x : PathState) : Type 0 where
   pub owned : StandsForOwner s A now x.owned
-  pub sized : length x.clients.items ≡ s.shape.clients
-  pub clients : (r : ℕ) (k : ClientPath) → slice_get x.clients.items r ≡ Some k → StandsForClient s A r p x.owned k
+  pub sized : length x.clients ≡ s.shape.clients
+  pub clients : (r : ℕ) (k : ClientPath) → slice_get x.clients r ≡ Some k → StandsForClient s A r p x.owned k
 
 -- the paths of the job and what is kept for each, the answers, and whose turn it is
 pub record Holds (s : Job) (paths : List (List ℕ)) (states : List PathState) (answers : Given) (turns : Places) : Type 0 where

@@ -9,6 +9,7 @@ mod laws;
 mod machine;
 mod noted;
 mod owner_files;
+mod owners;
 mod path_state;
 mod path_table;
 mod program;

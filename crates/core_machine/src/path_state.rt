@@ -1,7 +1,7 @@
-//! What the core keeps for a path: at its owner, and for each client.
+//! What is kept for a path: by its owner, and by each client.
 
-ghost use Rattle.std.specs.Prelude.{◌≡◌, false, [], length, IfOk};
-ghost use Rattle.core_machine.specs.Kept.{IsFreshClient, IsFreshOwner, IsFreshPath, later_of};
+ghost use Rattle.std.specs.Prelude.{◌≡◌, length, IfOk};
+ghost use Rattle.core_machine.specs.Kept.{IsFreshClient, IsFreshOwner, AreFreshClients, later_of, told};
 
 use crate::extent::Extent;
 use crate::noted::Noted;
@@ -30,14 +30,6 @@ pub struct ClientPath {
     pub noted: Noted,
 }
 
-/// All that is kept for a path.
-#[derive(Debug, Drop)]
-pub struct PathState {
-    pub owned: OwnedPath,
-    /// What each client keeps for it, by rank.
-    pub clients: Vec<ClientPath>,
-}
-
 /// What is noted of a path on which nothing was done.
 const UNSEEN: Noted = Noted {
     version: Version(0),
@@ -54,6 +46,16 @@ impl OwnedPath {
             file: None,
             board: UNSEEN,
         }
+    }
+
+    /// Tells all clients the version.
+    pub fn tell(&mut self)
+        ensures { self.new ≡ told self.old }
+    {
+        self.board = Noted {
+            version: self.version(),
+            exists: self.file.is_some(),
+        };
     }
 
     /// How many lines were committed.
@@ -87,18 +89,13 @@ impl ClientPath {
     }
 }
 
-impl PathState {
-    /// A path on which so many clients did nothing.
-    pub fn new(alloc: Global, clients: u32) -> Result<PathState, Want>
-        ensures { IfOk result (λ x. IsFreshPath clients x) }
-    {
-        let mut each = Vec::with_capacity(alloc, clients as usize)?;
-        for _ in 0..clients {
-            each.push(ClientPath::new(alloc))?;
-        }
-        Ok(PathState {
-            owned: OwnedPath::new(alloc),
-            clients: each,
-        })
+/// What so many clients keep for a path on which they did nothing.
+pub fn fresh_clients(alloc: Global, clients: u32) -> Result<Vec<ClientPath>, Want>
+    ensures { IfOk result (AreFreshClients clients) }
+{
+    let mut each = Vec::with_capacity(alloc, clients as usize)?;
+    for _ in 0..clients {
+        each.push(ClientPath::new(alloc))?;
     }
+    Ok(each)
 }

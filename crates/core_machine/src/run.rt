@@ -1,27 +1,31 @@
 //! What a run keeps, and its events: each is one of the machine of moments.
 
-ghost use Rattle.std.specs.Prelude.{◌≡◌, ℕ, ◌+◌, ◌<◌, true, false, Some, None, slice_get, [], ◌∷◌, length, map, Contains, All, IsSome, IfOk, OnOk, OnErr};
+ghost use Rattle.std.specs.Prelude.{◌≡◌, ℕ, ◌+◌, ◌<◌, true, false, Some, None, slice_get, [], ◌∷◌, length, map, Contains, All, IsSome, IfSome, IfNone, IfOk, OnOk, OnErr};
 ghost use Rattle.fs_script.specs.Job.{op_at};
 ghost use Rattle.fs_script.specs.Grammar.{IsJob};
-ghost use Rattle.fs_script.specs.Report.{file_state_of, journal_of};
+ghost use Rattle.fs_script.specs.Report.{AreRising, file_state_of, journal_of};
 ghost use Rattle.core_machine.specs.Moment.{IsFirst, ready, events_left, journal, file_now};
 ghost use Rattle.core_machine.specs.Step.{step};
-ghost use Rattle.core_machine.specs.Kept.{IsFreshPath, with_board};
-ghost use Rattle.core_machine.specs.Follows.{FollowsFor, IsSoundFor};
+ghost use Rattle.core_machine.specs.Kept.{AreFreshClients};
+ghost use Rattle.core_machine.specs.Follows.{FollowsAt, FollowsIn, IsSoundAt, IsSoundIn};
+ghost use Rattle.core_machine.specs.OwnerFiles.{ChangesOne, ChangesOnePath, owned_at};
+ghost use Rattle.core_machine.specs.States.{AreKept, states_of};
 ghost use Rattle.core_machine.specs.Turns.{going};
 ghost use Rattle.core_machine.specs.MomentKept.{journals_of, moment_of};
 ghost use Rattle.core_machine.specs.Turns.{after_line};
 ghost use Rattle.core_machine.specs.Standing.{Holds};
-ghost use Rattle.core_machine.specs.Core.{IsRun, moment};
+ghost use Rattle.core_machine.specs.Core.{IsRun, moment, states};
 
 use crate::event;
 use crate::file_state::file_state;
-use crate::noted::Noted;
-use crate::path_state::PathState;
+use crate::owner_files::{FileName, OwnerFiles};
+use crate::owners::{owned, owners_of, tell_all};
+use crate::path_state::{ClientPath, OwnedPath, fresh_clients};
 use crate::path_table::PathTable;
 use crate::turns::Turns;
 use fs_script::{Line, OpLine, Script};
 use fs_types::{Answer, Answers, FileState, LineNo, Path, Rank, Want};
+use placement::{gfid_of, owner_of};
 use std::alloc::Global;
 
 /// What a run keeps. Before memory runs out it stands for a moment of the machine.
@@ -30,22 +34,29 @@ pub struct Run<'s> {
     pub alloc: Global,
     pub script: &'s Script,
     pub paths: PathTable,
-    /// For each path, at its place in the table.
-    pub states: Vec<PathState>,
+    /// What each server keeps for the paths that it owns.
+    pub owners: Vec<OwnerFiles>,
+    /// For each path, at its place in the table, what each client keeps for it, by rank.
+    pub clients: Vec<Vec<ClientPath>>,
     pub answers: Answers,
     pub turns: Turns<'s>,
     /// Memory ran out.
     pub spent: bool,
 }
 
-fn fresh_states(alloc: Global, paths: usize, clients: u32) -> Result<Vec<PathState>, Want>
-    ensures { IfOk result (λ v. (length v.items ≡ paths) × All (IsFreshPath clients) v.items) }
+// For each of so many paths, what so many clients keep for it that did nothing.
+fn fresh_clients_of(
+    alloc: Global,
+    paths: usize,
+    clients: u32,
+) -> Result<Vec<Vec<ClientPath>>, Want>
+    ensures { IfOk result (λ v. (length v.items ≡ paths) × All (AreFreshClients clients) v.items) }
 {
-    let mut states = Vec::with_capacity(alloc, paths)?;
+    let mut each = Vec::with_capacity(alloc, paths)?;
     for _ in 0..paths {
-        states.push(PathState::new(alloc, clients)?)?;
+        each.push(fresh_clients(alloc, clients)?)?;
     }
-    Ok(states)
+    Ok(each)
 }
 
 // The operation of a line that is one.
@@ -77,99 +88,123 @@ pub fn first_run(alloc: Global, s: &Script) -> Result<Run<'_>, Want>
     ensures first { IfOk result (λ r. IsFirst s.now (moment r)) }
     ensures job { OnOk result (IsJob s.now) }
 {
+    let shape = s.shape();
     let paths = PathTable::of_script(alloc, s)?;
-    let states = fresh_states(alloc, paths.len(), s.shape().clients)?;
+    let owners = owners_of(alloc, shape.servers, &paths)?;
+    let clients = fresh_clients_of(alloc, paths.len(), shape.clients)?;
     let answers = Answers::new(alloc, s.lines())?;
     let turns = Turns::new(alloc, s)?;
     Ok(Run {
         alloc,
         script: s,
         paths,
-        states,
+        owners,
+        clients,
         answers,
         turns,
         spent: false,
     })
 }
 
-// Answers line `n` of client `r`, of whose path this is kept. After want of memory it is open.
+// Answers line `n` of client `r` at its path's owner. After want of memory what is kept for the
+// path is open.
+fn answer_at_owner(
+    alloc: Global,
+    s: &Script,
+    n: LineNo,
+    o: &OpLine,
+    gfid: u64,
+    owner: &mut OwnerFiles,
+    clients: &mut [ClientPath],
+    r: Rank,
+) -> Result<Answer, Want>
+    requires line { op_at s.now n ≡ Some o.now }
+    requires sound { IsSoundIn s.now r gfid o.now.path owner.old clients.old }
+    ensures changes { ChangesOne owner.old owner.new gfid o.now.path }
+    ensures follows { IfOk result (λ a.
+        FollowsIn s.now n o.now.op r gfid o.now.path owner.old owner.new clients.old clients.new a) }
+{
+    let own = &mut clients[r.0 as usize];
+    let path = o.path.as_bytes();
+    match owner.files.get_mut(FileName { gfid, path }) {
+        Some(file) => event::answer(alloc, s, n, o, file, own),
+        None => unreachable!(),
+    }
+}
+
+// Answers line `n` of client `r`, for whose path the clients keep this. After want of memory what
+// is kept for the path is open.
 fn answer_on_path(
     alloc: Global,
     s: &Script,
     n: LineNo,
     o: &OpLine,
-    state: &mut PathState,
+    owners: &mut [OwnerFiles],
+    clients: &mut [ClientPath],
     r: Rank,
 ) -> Result<Answer, Want>
     requires line { op_at s.now n ≡ Some o.now }
-    requires sound { IsSoundFor s.now r state.old }
-    ensures { IfOk result (λ a. FollowsFor s.now n o.now.op r state.old state.new a) }
+    requires servers { length owners.old ≡ s.now.shape.servers }
+    requires sound { IsSoundAt s.now r o.now.path owners.old clients.old }
+    ensures changes { ChangesOnePath owners.old owners.new o.now.path }
+    ensures follows { IfOk result (λ a.
+        FollowsAt s.now n o.now.op r o.now.path owners.old owners.new clients.old clients.new a) }
 {
-    let own = &mut state.clients[r.0 as usize];
-    event::answer(alloc, s, n, o, &mut state.owned, own)
+    let gfid = gfid_of(&o.path);
+    let owner = owner_of(gfid, s.shape().servers);
+    answer_at_owner(alloc, s, n, o, gfid, &mut owners[owner.0 as usize], clients, r)
 }
 
-// Answers the next line of a client that goes. After want of memory the states are open.
+// Answers the next line of a client that goes. After want of memory what is kept for that line's
+// path is open.
 fn answer_line(
     alloc: Global,
     s: &Script,
     paths: &PathTable,
-    states: &mut [PathState],
+    owners: &mut [OwnerFiles],
+    clients: &mut [Vec<ClientPath>],
     answers: &mut Answers,
     turns: &Turns<'_>,
     r: Rank,
 ) -> Result<(), Want>
-    requires holds { Holds s.now paths.now states.old answers.old turns.now }
+    requires kept { AreKept s.now.shape.servers paths.now owners.old clients.old }
+    requires holds { Holds s.now paths.now (states_of (owned_at owners.old) paths.now clients.old)
+        answers.old turns.now }
     requires going { Contains (going turns.now) r }
-    ensures holds { OnOk result (Holds s.now paths.now states.new answers.new
-        (after_line turns.now r)) }
-    ensures step { OnOk result (moment_of s.now paths.now states.new answers.new
-        (after_line turns.now r) false
-        ≡ step (moment_of s.now paths.now states.old answers.old turns.now false)
-        (record { client = r })) }
+    ensures kept { AreKept s.now.shape.servers paths.now owners.new clients.new }
+    ensures holds { OnOk result
+        (Holds s.now paths.now (states_of (owned_at owners.new) paths.now clients.new)
+        answers.new (after_line turns.now r)) }
+    ensures step { OnOk result
+        (moment_of s.now paths.now (states_of (owned_at owners.new) paths.now clients.new)
+        answers.new (after_line turns.now r) false
+        ≡ step (moment_of s.now paths.now (states_of (owned_at owners.old) paths.now clients.old)
+        answers.old turns.now false) (record { client = r })) }
 {
     let n = turns.next(r);
     let o = operation(s, n);
     let i = place(paths, &o.path);
-    let answer = answer_on_path(alloc, s, n, o, &mut states[i], r)?;
+    let answer = answer_on_path(alloc, s, n, o, owners, &mut clients[i], r)?;
     answers.set(n, answer);
     Ok(())
 }
 
-// Tells all clients the version of a path.
-fn tell(state: &mut PathState)
-    ensures { state.new ≡ with_board state.old }
-{
-    state.owned.board = Noted {
-        version: state.owned.version(),
-        exists: state.owned.file.is_some(),
-    };
-}
-
-// Tells all clients the version of each path.
-fn tell_all(states: &mut [PathState])
-    ensures { states.new ≡ map with_board states.old }
-{
-    for state in states {
-        tell(state);
-    }
-}
-
 // Goes on to the next line of a client, and where that begins a phase, tells all clients of every path.
 fn go_on(run: &mut Run<'_>, r: Rank)
-    requires sized { length run.old.states.items ≡ length run.old.paths }
+    requires kept { AreKept run.old.script.now.shape.servers run.old.paths run.old.owners.items
+        run.old.clients.items }
     requires going { Contains (going run.old.turns) r }
-    requires holds { Holds run.old.script.now run.old.paths run.old.states.items run.old.answers
+    requires holds { Holds run.old.script.now run.old.paths (states run.old) run.old.answers
         (after_line run.old.turns r) }
     requires unspent { run.old.spent ≡ false }
     ensures run { IsRun run.new }
     ensures unspent { run.new.spent ≡ false }
     ensures moment { moment run.new
-        ≡ moment_of run.old.script.now run.old.paths run.old.states.items run.old.answers
+        ≡ moment_of run.old.script.now run.old.paths (states run.old) run.old.answers
         (after_line run.old.turns r) false }
 {
     if run.turns.advance(r) {
-        tell_all(&mut run.states);
+        tell_all(&mut run.owners);
     }
 }
 
@@ -186,7 +221,8 @@ pub fn advance(run: &mut Run<'_>, r: Rank) -> Result<(), Want>
         run.alloc,
         run.script,
         &run.paths,
-        &mut run.states,
+        &mut run.owners,
+        &mut run.clients,
         &mut run.answers,
         &run.turns,
         r,
@@ -210,14 +246,27 @@ pub fn ready<'r>(run: &'r Run<'_>) -> &'r [Rank]
     if run.spent { &[] } else { run.turns.ready() }
 }
 
+// What its owner keeps for a path that the script names.
+fn kept<'r>(run: &'r Run<'_>, p: &Path) -> Option<&'r OwnedPath>
+    requires { AreKept run.now.script.now.shape.servers run.now.paths run.now.owners.items
+        run.now.clients.items }
+    ensures there { IfSome result (λ x. owned_at run.now.owners.items p.now ≡ Some x.now) }
+    ensures named { IfSome result (λ _. Contains run.now.paths p.now) }
+    ensures absent { IfNone result (Contains run.now.paths p.now → ⊥) }
+    ensures rising { AreRising run.now.paths }
+{
+    run.paths.index_of(p)?;
+    owned(&run.owners, run.script.shape().servers, p)
+}
+
 /// The journal of a path, empty where the script doesn't name it.
 #[tactic(auto, using(crate::proofs::Refines::Reads::kept_reads))]
 pub fn journal<'r>(run: &'r Run<'_>, p: &Path) -> &'r [LineNo]
     requires { IsRun run.now }
     ensures { result.now ≡ journal (moment run.now) p.now }
 {
-    match run.paths.index_of(p) {
-        Some(i) => &run.states[i].owned.journal,
+    match kept(run, p) {
+        Some(path) => &path.journal,
         None => &[],
     }
 }
@@ -231,8 +280,8 @@ pub fn file(run: &Run<'_>, p: &Path) -> Result<FileState, Want>
     if run.spent {
         return Err(Want);
     }
-    match run.paths.index_of(p) {
-        Some(i) => file_state(run.alloc, run.script, &run.states[i].owned),
+    match kept(run, p) {
+        Some(path) => file_state(run.alloc, run.script, path),
         None => Ok(FileState::Gone),
     }
 }

@@ -30,8 +30,8 @@ path-fresh : (s : Job) (now : ℕ) (p : List ℕ) {x : PathState} → IsFreshPat
 path-fresh s now p {x} fresh = record {
   owned = owner-fresh s now fresh.owned;
   sized = fresh.sized;
-  clients = λ r k at. client-fresh s r p fresh.owned (subst IsFreshClient (get_or_from_slice_get x.clients.items r k k at)
-      (fresh.clients r k (slice_get_within x.clients.items r k at)));
+  clients = λ r k at. client-fresh s r p fresh.owned (subst IsFreshClient (get_or_from_slice_get x.clients r k k at)
+      (fresh.clients r k (slice_get_within x.clients r k at)));
 }
 
 -- nothing is kept yet, and that stands for no answers

@@ -1,44 +1,68 @@
 -- What is read of a path in what the core keeps: its journal and its file at the moment.
-use Rattle.fs_types.proofs.Common.{common_steps, refl, slice_get_read, ◌≡◌, ℕ, List, [], length, map, get_or, Some, None, false, sym, ap}
-use Rattle.fs_types.proofs.Common.{◌∙◌, arith, slice_get, Contains, slice_get_within}
+use Rattle.fs_types.proofs.Common.{common_steps, refl, ◌≡◌, ℕ, zero, suc, ◌<◌, List, [], ◌∷◌, length, map, get_or, Some, None, Vec, false, sym, ap}
+use Rattle.fs_types.proofs.Common.{◌∙◌, arith, slice_get, Contains, slice_get-get_or}
 use Rattle.fs_script.specs.Vocabulary.{Given, answer_at, Job, state, AreRising, journal_of}
-use Rattle.core_machine.specs.Vocabulary.{PathState, file_of, file_now, Places, journals_of, moment_of, Holds, Stands}
+use Rattle.core_machine.specs.declared.owner_files.OwnerFiles.{OwnerFiles}
+use Rattle.core_machine.specs.OwnerFiles.{owned_at}
+use Rattle.core_machine.specs.States.{AreKept, states_of}
+use Rattle.core_machine.specs.Vocabulary.{ClientPath, OwnedPath, PathState, file_of, file_now, Places, journals_of, moment_of, Holds, Stands}
 use Rattle.core_machine.proofs.Paths.{journal_of-zip, journal_of-absent}
 use Rattle.core_machine.proofs.Refines.Journals.{slice_get-map_some, journal_kept}
+use Rattle.core_machine.proofs.Refines.States.{AllKept-from_contained, states-at}
 
--- the journal of a path that has a place, whose state was read there
-pub journal-read : (paths : List (List ℕ)) (states : List PathState) (i : ℕ) (p : List ℕ) (x : PathState) → AreRising paths
-    → slice_get paths i ≡ Some p → length states ≡ length paths → x ≡ get_or states i x
-    → journal_kept x ≡ journal_of (journals_of paths states) p
-journal-read paths states i p x rising at sized read =
-    let inside = slice_get_within paths i p at in
-    sym (journal_of-zip paths (map journal_kept states) i p (journal_kept x) rising at
-    (slice_get-map_some journal_kept states i x (slice_get_read states (length states) i x refl (omega arith) read)))
+pub some-at : {X : Type 0} (xs : List X) (i : ℕ) → i < length xs → (x : X) × (slice_get xs i ≡ Some x)
+some-at [] i lt = absurd (omega arith)
+some-at (x ∷ xs) zero lt = (x, refl)
+some-at (x ∷ xs) (suc i) lt = some-at xs i (omega arith)
+
+-- the place of a path of which its owner keeps x, and what is kept for the path there
+pub record IsThere (paths : List (List ℕ)) (states : List PathState) (p : List ℕ) (x : OwnedPath) : Type 0 where
+  pub place : ℕ
+  pub clients : List ClientPath
+  pub at : slice_get paths place ≡ Some p
+  pub there : slice_get states place ≡ Some (record { owned = x; clients = clients })
+
+pub there-kept : {A : Type 0} {servers : ℕ} {paths : List (List ℕ)} {owners : List OwnerFiles} {kept : List (Vec ClientPath A)} (p : List ℕ)
+    (x : OwnedPath) → AreKept servers paths owners kept → Contains paths p → owned_at owners p ≡ Some x
+    → IsThere paths (states_of (owned_at owners) paths kept) p x
+there-kept {A} {servers} {paths} {owners} {kept} p x all has is =
+    let at = slice_get-get_or paths has.0 p has.1 ∙ ap Some has.2 in
+    let ks = some-at kept has.0 (let rows = all.rows in let lt = has.1 in omega arith) in
+    record {
+      place = has.0;
+      clients = ks.0.items;
+      at = at;
+      there = states-at (owned_at owners) paths kept has.0 p x ks.0 (AllKept-from_contained paths all.filed) at is ks.1;
+    }
+
+-- the journal of a path that has a place
+pub journal-read : (paths : List (List ℕ)) (states : List PathState) (p : List ℕ) (x : OwnedPath) → AreRising paths
+    → IsThere paths states p x → x.journal.items ≡ journal_of (journals_of paths states) p
+journal-read paths states p x rising here =
+    sym (journal_of-zip paths (map journal_kept states) here.place p x.journal.items rising here.at
+    (slice_get-map_some journal_kept states here.place (record { owned = x; clients = here.clients }) here.there))
 
 pub journal-absent : (paths : List (List ℕ)) (states : List PathState) (p : List ℕ) → (Contains paths p → ⊥)
     → [] ≡ journal_of (journals_of paths states) p
 journal-absent paths states p absent = sym (journal_of-absent paths (map journal_kept states) p absent)
 
--- what was read at a path's place stands for the path
-pub Stands-read : {s : Job} {paths : List (List ℕ)} {states : List PathState} {answers : Given} {turns : Places} (i : ℕ) (p : List ℕ)
-    (x : PathState) → Holds s paths states answers turns
-    → slice_get paths i ≡ Some p → x ≡ get_or states i x → Stands s (answer_at answers.list) turns.phase p x
-Stands-read {paths} {states} i p x held at read =
-    let inside = slice_get_within paths i p at in
-    let size = held.kept in
-    held.each i p x at (slice_get_read states (length states) i x refl (omega arith) read)
+-- what was found of a path stands for it
+pub Stands-read : {s : Job} {paths : List (List ℕ)} {states : List PathState} {answers : Given} {turns : Places} (p : List ℕ)
+    (x : OwnedPath) (held : Holds s paths states answers turns) (here : IsThere paths states p x)
+    → Stands s (answer_at answers.list) turns.phase p (record { owned = x; clients = here.clients })
+Stands-read p x held here = held.each here.place p (record { owned = x; clients = here.clients }) here.at here.there
 
 -- the file of a path is that of the moment
-pub file-read : {s : Job} {paths : List (List ℕ)} {states : List PathState} {answers : Given} {turns : Places} (i : ℕ) (p : List ℕ)
-    (x : PathState) → Holds s paths states answers turns → slice_get paths i ≡ Some p → x ≡ get_or states i x
-    → file_of s x.owned.file ≡ file_now (moment_of s paths states answers turns false) p
-file-read {s} {paths} {states} {answers} {turns} i p x held at read =
-    (Stands-read i p x held at read).owned.file ∙ ap (λ (j : List ℕ). state s (answer_at answers.list) j (length j))
-    (journal-read paths states i p x held.named.rising at held.kept read)
+pub file-read : {s : Job} {paths : List (List ℕ)} {states : List PathState} {answers : Given} {turns : Places} (p : List ℕ)
+    (x : OwnedPath) → Holds s paths states answers turns → IsThere paths states p x
+    → file_of s x.file ≡ file_now (moment_of s paths states answers turns false) p
+file-read {s} {paths} {states} {answers} p x held here =
+    (Stands-read p x held here).owned.file ∙ ap (λ (j : List ℕ). state s (answer_at answers.list) j (length j))
+    (journal-read paths states p x held.named.rising here)
 
 -- a path that isn't among them has no file
 pub file-absent : (s : Job) (paths : List (List ℕ)) (states : List PathState) (answers : Given) (turns : Places) (p : List ℕ)
     → (Contains paths p → ⊥) → None ≡ file_now (moment_of s paths states answers turns false) p
 file-absent s paths states answers turns p absent = grind (arith, common_steps, length, journal-absent)
 
-pub ruleset kept_reads = (journal-read, journal-absent, file-absent)
+pub ruleset kept_reads = (journal-absent, file-absent)

@@ -38,12 +38,12 @@ pub record Answered (s : Job) (paths : List (List ℕ)) (states : List PathState
   pub was : PathState
   pub there : slice_get states place ≡ Some was
   pub client : ClientPath
-  pub beside : slice_get was.clients.items r ≡ Some client
+  pub beside : slice_get was.clients r ≡ Some client
   -- the answer, and what is kept after it
   pub answer : Answer
   pub then : PathState
   pub own : ClientPath
-  pub changed : then.clients.items ≡ set was.clients.items r own
+  pub changed : then.clients ≡ set was.clients r own
   pub follows : Follows s number line.op was.owned client then.owned own answer
   pub sound : AreSound s then.owned own
 
@@ -94,17 +94,17 @@ module _ {s : Job} {paths : List (List ℕ)} {states : List PathState} {answers 
   owner-after : StandsForOwner s given_then turns.phase t.then.owned
   owner-after = StandsForOwner-own is_answer pends t.follows t.sound stood.owned
 
-  clients-after : (q : ℕ) (k : ClientPath) → slice_get t.then.clients.items q ≡ Some k
+  clients-after : (q : ℕ) (k : ClientPath) → slice_get t.then.clients q ≡ Some k
       → StandsForClient s given_then q t.line.path t.then.owned k
   clients-after q k found = elim (cases_eq q r) [
     | inl is ↦
-        let there = sym (slice_get-set_same t.was.clients.items r t.own (slice_get_within t.was.clients.items r t.client t.beside))
-        ∙ ap (slice_get (set t.was.clients.items r t.own)) (sym is) ∙ ap (λ ks. slice_get ks q) (sym t.changed) ∙ found in
+        let there = sym (slice_get-set_same t.was.clients r t.own (slice_get_within t.was.clients r t.client t.beside))
+        ∙ ap (slice_get (set t.was.clients r t.own)) (sym is) ∙ ap (λ ks. slice_get ks q) (sym t.changed) ∙ found in
         subst (λ i. StandsForClient s given_then i t.line.path t.then.owned k) (rank-is
         ∙ sym is) (subst (StandsForClient s given_then t.line.rank t.line.path t.then.owned) (same_Some t.own k there)
         (StandsForClient-own is_answer is_own t.follows t.sound stood.owned owner-after client_stood))
     | inr other ↦
-        let kept = sym (slice_get-set_other t.was.clients.items r q t.own other) ∙ ap (λ ks. slice_get ks q) (sym t.changed) ∙ found in
+        let kept = sym (slice_get-set_other t.was.clients r q t.own other) ∙ ap (λ ks. slice_get ks q) (sym t.changed) ∙ found in
         let none = ap (own_op q t.line.path) t.is ∙ own_op-other t.line q t.line.path (λ e same. other (sym e ∙ rank-is)) in
         StandsForClient-other is_answer none grows stood.owned (stood.clients q k kept)
   ]
@@ -112,7 +112,7 @@ module _ {s : Job} {paths : List (List ℕ)} {states : List PathState} {answers 
   stands-after : Stands s given_then turns.phase t.line.path t.then
   stands-after = record {
     owned = owner-after;
-    sized = ap length t.changed ∙ length-set t.was.clients.items r t.own ∙ stood.sized;
+    sized = ap length t.changed ∙ length-set t.was.clients r t.own ∙ stood.sized;
     clients = clients-after;
   }
 

@@ -1,51 +1,78 @@
-use Rattle.fs_types.proofs.Common.{slice_get_read, ◌≡◌, ℕ, zero, suc, ◌<◌, false, List, [], ◌∷◌, length, Some, slice_get, set, is_some}
-use Rattle.fs_types.proofs.Common.{refl, sym, ap, subst, arith}
+use Rattle.fs_types.proofs.Common.{slice_get_read, ◌≡◌, ◌∙◌, ℕ, ◌<◌, false, List, length, Some, Vec, slice_get, set, is_some, length-set}
+use Rattle.fs_types.proofs.Common.{refl, sym, ap, subst, arith, with_items, with_items_is, get_or, get_or_from_slice_get, Contains}
 use Rattle.fs_script.specs.Vocabulary.{Given, put_answer}
-use Rattle.core_machine.specs.Vocabulary.{PathState, FollowsFor, IsSoundFor, moment_of, after_line, Holds, step}
+use Rattle.core_machine.specs.Vocabulary.{ClientPath, OwnedPath, PathState, IsSoundFor, moment_of, after_line, Holds, step}
+use Rattle.core_machine.specs.OwnerFiles.{owned_at}
+use Rattle.core_machine.specs.States.{states_of}
 use Rattle.fs_script.proofs.CallerLemmas.{op_at-within, program-op}
-use Rattle.core_machine.proofs.Refines.Goes.{GoesNow, goes-kept}
-use Rattle.core_machine.proofs.Refines.Reads.{Stands-read}
-use Rattle.core_machine.proofs.Refines.Steps.{Answered, Holds-after}
+use Rattle.core_machine.proofs.Refines.Goes.{goes-kept}
 use Rattle.core_machine.proofs.Refines.Moments.{step-is}
-use Rattle.core_machine.proofs.run.answer_line.Goals.{After-next-n, After-set}
+use Rattle.core_machine.proofs.Refines.Reads.{some-at}
+use Rattle.core_machine.proofs.Refines.States.{AllKept-from_contained, AreKept-changed, some-kept, states-at, states-set}
+use Rattle.core_machine.proofs.Refines.Steps.{Answered, Holds-after}
+use Rattle.core_machine.proofs.run.answer_line.Goals.{After-set}
 use Rattle.core_machine.proofs.run.answer_line.Goals as goal
 
-goes : (c : After-next-n) → GoesNow c.args.s.now c.args.turns.now c.args.r c.next-n.result
-goes c = goes-kept c.args.r c.next-n.result c.requires.holds c.requires.going c.next-n.ensures.next
-
 pub operation-o-requires : goal.operation-o-requires
-operation-o-requires c = ap is_some (program-op c.args.s.now c.args.r _ c.next-n.result (goes c).next).1
-
-some-at : {X : Type 0} (xs : List X) (i : ℕ) → i < length xs → (x : X) × (slice_get xs i ≡ Some x)
-some-at [] i lt = absurd (omega arith)
-some-at (x ∷ xs) zero lt = (x, refl)
-some-at (x ∷ xs) (suc i) lt = some-at xs i (omega arith)
+operation-o-requires c =
+    let goes = goes-kept c.args.r c.next-n.result c.requires.holds c.requires.going c.next-n.ensures.next in
+    ap is_some (program-op c.args.s.now c.args.r _ c.next-n.result goes.next).1
 
 pub answer_on_path-requires-clause-sound : goal.answer_on_path-requires-clause-sound
 answer_on_path-requires-clause-sound c =
-    let x = c.index-states-i.result in
-    let stands = Stands-read c.place-i.result c.operation-o.result.now.path x c.requires.holds c.place-i.ensures.there c.index-states-i.is
-    in
-    let within = (goes-kept c.args.r c.next-n.result c.requires.holds c.requires.going c.next-n.ensures.next).within in
-    let k = some-at x.clients.items c.args.r (let size = stands.sized in omega arith) in
-    subst (IsSoundFor c.args.s.now c.args.r) c.index-states-i.is (record {
-      client = k.0;
-      beside = k.1;
-      sound = record { written = stands.owned.written; pending = (stands.clients c.args.r k.0 k.1).extents };
-    })
+    let s = c.args.s.now in
+    let paths = c.args.paths.now in
+    let owners = c.args.owners.now in
+    let clients = c.args.clients.now in
+    let i = c.place-i.result in
+    let p = c.operation-o.result.now.path in
+    let ks = c.index-clients-i.result in
+    let at = c.place-i.ensures.there in
+    let has : Contains paths p = (i, c.place-i.ensures.within, get_or_from_slice_get paths i p p at) in
+    let x = some-kept (owned_at owners p) (c.requires.kept.filed p has) in
+    let within = c.place-i.ensures.within in
+    let row = slice_get_read clients (length clients) i ks refl (omega (arith, within, c.requires.kept.rows)) c.index-clients-i.is in
+    let there = states-at (owned_at owners) paths clients i p x.0 ks (AllKept-from_contained paths c.requires.kept.filed) at x.1 row in
+    let stands = c.requires.holds.each i p (record { owned = x.0; clients = ks.items }) at there in
+    let goes = (goes-kept c.args.r c.next-n.result c.requires.holds c.requires.going c.next-n.ensures.next).within in
+    let k = some-at ks.items c.args.r (let size = stands.sized in omega arith) in
+    let items = ap (λ (v : Vec ClientPath _). v.items) c.index-clients-i.is ∙ sym c.deref_mut.ensures.value in
+    record {
+      file = x.0;
+      there = x.1;
+      sound = subst (λ (cs : List ClientPath). IsSoundFor s c.args.r (record { owned = x.0; clients = cs })) items (record {
+        client = k.0;
+        beside = k.1;
+        sound = record { written = stands.owned.written; pending = (stands.clients c.args.r k.0 k.1).extents };
+      });
+    }
 
 pub set-requires-clause-within : goal.set-requires-clause-within
 set-requires-clause-within c =
     let inside = op_at-within c.args.s.now c.next-n.result c.operation-o.result.now c.operation-o.ensures in
     omega (arith, inside.1, c.requires.holds.room)
 
+-- what is kept for the line's path by the clients, which is lent as a slice
+items-lent : (c : After-set) → c.index-clients-i.result.items ≡ c.deref_mut.result.now
+items-lent c = ap (λ (v : Vec ClientPath _). v.items) c.index-clients-i.is ∙ sym c.deref_mut.ensures.value
+
 -- the line that was answered, and what is kept after it
-abbrev answered : (c : After-set) → Answered c.args.s.now c.args.paths.now c.args.states.now c.args.answers.now c.args.turns.now c.args.r
+abbrev answered : (c : After-set) → Answered c.args.s.now c.args.paths.now
+    (states_of (owned_at c.args.owners.now) c.args.paths.now c.args.clients.now) c.args.answers.now c.args.turns.now c.args.r
 answered c =
-    let x = c.index-states-i.result in
+    let paths = c.args.paths.now in
+    let owners = c.args.owners.now in
+    let clients = c.args.clients.now in
+    let i = c.place-i.result in
+    let p = c.operation-o.result.now.path in
+    let ks = c.index-clients-i.result in
+    let at = c.place-i.ensures.there in
+    let within = c.place-i.ensures.within in
+    let row = slice_get_read clients (length clients) i ks refl (omega (arith, within, c.requires.kept.rows)) c.index-clients-i.is in
     let going = goes-kept c.args.r c.next-n.result c.requires.holds c.requires.going c.next-n.ensures.next in
-    let follows = subst (λ (z : PathState). FollowsFor c.args.s.now c.next-n.result c.operation-o.result.now.op c.args.r z
-    c.answer_on_path.new.state c.in_ok-answer.answer) (sym c.index-states-i.is) c.in_ok-answer.ensures in
+    let all = c.in_ok-answer.ensures.follows in
+    let there = states-at (owned_at owners) paths clients i p all.was ks (AllKept-from_contained paths c.requires.kept.filed) at all.there
+    row in
     record {
       held = c.requires.holds;
       within = going.within;
@@ -54,20 +81,44 @@ answered c =
       next = going.next;
       is = c.operation-o.ensures;
       now = going.now;
-      place = c.place-i.result;
-      at = c.place-i.ensures.there;
-      was = x;
-      there = slice_get_read c.args.states.now (length c.args.states.now) c.place-i.result x refl
-          (omega (arith, c.place-i.ensures.within, c.requires.holds.kept)) c.index-states-i.is;
-      client = follows.client;
-      beside = follows.beside;
+      place = i;
+      at = at;
+      was = record { owned = all.was; clients = c.deref_mut.result.now };
+      there = there ∙ ap (λ (cs : List ClientPath). Some (record { owned = all.was; clients = cs })) (items-lent c);
+      client = all.follows.client;
+      beside = all.follows.beside;
       answer = c.in_ok-answer.answer;
-      then = c.answer_on_path.new.state;
-      own = follows.own;
-      changed = follows.changed;
-      follows = follows.follows;
-      sound = follows.sound;
+      then = record { owned = all.now; clients = c.answer_on_path.new.clients };
+      own = all.follows.own;
+      changed = all.follows.changed;
+      follows = all.follows.follows;
+      sound = all.follows.sound;
     }
+
+-- what is kept for each path after it
+abbrev then_kept : After-set → List PathState
+then_kept c = set (states_of (owned_at c.args.owners.now) c.args.paths.now c.args.clients.now) c.place-i.result (answered c).then
+
+states-after : (c : After-set) → states_of (owned_at c.answer_on_path.new.owners) c.args.paths.now (set c.args.clients.now c.place-i.result
+    (with_items (get_or c.args.clients.now c.place-i.result c.index-clients-i.result) c.answer_on_path.new.clients))
+    ≡ then_kept c
+states-after c =
+    let all = c.in_ok-answer.ensures.follows in
+    let i = c.place-i.result in
+    let row = get_or c.args.clients.now i c.index-clients-i.result in
+    let new = c.answer_on_path.new.clients in
+    let size = ap length all.follows.changed ∙ length-set c.deref_mut.result.now c.args.r all.follows.own
+    ∙ ap length c.deref_mut.ensures.value in
+    states-set (owned_at c.args.owners.now) (owned_at c.answer_on_path.new.owners) c.args.paths.now c.args.clients.now i
+    c.operation-o.result.now.path all.now (with_items row new) all.changes.changes c.requires.holds.named.rising
+    (AllKept-from_contained c.args.paths.now c.requires.kept.filed) c.place-i.ensures.there c.requires.kept.rows
+    ∙ ap (λ (cs : List ClientPath). set (states_of (owned_at c.args.owners.now) c.args.paths.now c.args.clients.now) i
+    (record { owned = all.now; clients = cs })) (with_items_is row new (omega (arith, size, row.ok.0)))
+
+pub returns-clause-kept : goal.returns-clause-kept
+returns-clause-kept c =
+    let changes = c.in_ok-answer.ensures.changes in
+    AreKept-changed c.operation-o.result.now.path changes.0 changes.1 (length-set c.args.clients.now c.place-i.result _) c.requires.kept
 
 same_answers : (c : After-set) → record {
   lines = c.args.answers.now.lines;
@@ -77,14 +128,15 @@ same_answers c = rw (← c.set.ensures.list, ← c.set.ensures.lines) refl
 
 pub returns-clause-holds : goal.returns-clause-holds
 returns-clause-holds c =
-    let states = set c.args.states.now c.place-i.result c.answer_on_path.new.state in
-    subst (λ (g : Given). Holds c.args.s.now c.args.paths.now states g (after_line c.args.turns.now c.args.r)) (same_answers c)
-    (Holds-after (answered c))
+    subst (λ (xs : List PathState). Holds c.args.s.now c.args.paths.now xs c.set.new.self (after_line c.args.turns.now c.args.r))
+    (sym (states-after c))
+    (subst (λ (g : Given). Holds c.args.s.now c.args.paths.now (then_kept c) g (after_line c.args.turns.now c.args.r)) (same_answers c)
+    (Holds-after (answered c)))
 
 pub returns-clause-step : goal.returns-clause-step
 returns-clause-step c =
-    let states = set c.args.states.now c.place-i.result c.answer_on_path.new.state in
-    let next = step (moment_of c.args.s.now c.args.paths.now c.args.states.now c.args.answers.now c.args.turns.now false)
-    (record { client = c.args.r }) in
-    subst (λ (g : Given). moment_of c.args.s.now c.args.paths.now states g (after_line c.args.turns.now c.args.r) false ≡ next)
-    (same_answers c) (step-is (answered c))
+    let s = c.args.s.now in
+    let paths = c.args.paths.now in
+    let later = after_line c.args.turns.now c.args.r in
+    ap (λ (xs : List PathState). moment_of s paths xs c.set.new.self later false) (states-after c)
+    ∙ ap (λ (g : Given). moment_of s paths (then_kept c) g later false) (sym (same_answers c)) ∙ step-is (answered c)

@@ -1,6 +1,6 @@
 use Rattle.fs_types.proofs.Common.{◌≡◌, length, All}
 use Rattle.core_machine.specs.Vocabulary.{IsFreshClient}
-use Rattle.core_machine.proofs.path_state.PathState.new.Given as goal
+use Rattle.core_machine.proofs.path_state.fresh_clients.Given as goal
 
 -- the clients so far did nothing
 abbrev pub invariant-loop : goal.invariant-loop
