@@ -1,6 +1,7 @@
 //! A file as its definition has it: none, or bytes and whether it is frozen.
 
-ghost use Rattle.std.specs.Prelude.{◌≡◌, ◌<◌, ◌∷◌, [], false, is_some, length, slice_index, None, Some, OnOk};
+ghost use Rattle.std.specs.Prelude.{◌≡◌, ◌<◌, ◌∷◌, [], false, length, slice_index};
+ghost use Rattle.std.specs.Prelude.{None, Some, is_some, OnOk};
 ghost use Rattle.fs_types.specs.PlainFile.{is_open_to_change};
 ghost use Rattle.fs_script.specs.Payload.{bytes_of};
 ghost use Rattle.fs_script.specs.Effect.{with_lines};

@@ -1,5 +1,5 @@
 -- Texts in pieces: the lines of a script, and the words of a line.
-use Rattle.std.specs.Prelude.{ℕ, ◌==◌, List, [], ◌∷◌, length, Option, Some, None, if◌then◌else◌}
+use Rattle.std.specs.Prelude.{◌≡◌, ℕ, ◌<◌, ◌==◌, List, [], ◌∷◌, length, Option, Some, None, if◌then◌else◌}
 use Rattle.std.specs.List.{slice_split}
 
 -- the pieces of a text, between the places where this byte stands
@@ -20,6 +20,10 @@ without_empty_end (l ∷ m ∷ ls) = l ∷ without_empty_end (m ∷ ls)
 -- the lines of a text: a line feed ends each, and the last may lack it
 abbrev pub lines_of : List ℕ → List (List ℕ)
 lines_of text = without_empty_end (pieces 10 text)
+
+-- a line comes first in the text, and what is left of the text is shorter
+abbrev pub BeginsWithLine : List ℕ → List ℕ → List ℕ → Type 0
+BeginsWithLine text line rest = (lines_of text ≡ line ∷ lines_of rest) × (length rest < length text)
 
 -- the words of a line, between single spaces
 abbrev pub words_of : List ℕ → List (List ℕ)

@@ -4,7 +4,8 @@ ghost use Rattle.std.specs.Prelude.{◌≡◌};
 ghost use Rattle.fs_script.specs.declared.read.line_fault.LineFault.TheVariants.{Want};
 ghost use Rattle.fs_script.specs.declared.read.op_kind.OpKind.TheVariants as kinds;
 ghost use Rattle.fs_script.specs.Grammar.{is_note};
-ghost use Rattle.fs_script.specs.Reading.Lines.{path_alone, op_of_kind, op_of_words, op_line_of, line_of};
+ghost use Rattle.fs_script.specs.Reading.Lines.{path_alone, op_of_kind, op_of_words};
+ghost use Rattle.fs_script.specs.Reading.Lines.{op_line_of, line_of};
 ghost use Rattle.fs_script.specs.Returned.{Gives};
 
 use crate::fault::Reason;

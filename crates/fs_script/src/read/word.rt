@@ -2,7 +2,8 @@
 
 ghost use Rattle.std.specs.Prelude.{◌≡◌};
 ghost use Rattle.fs_script.specs.declared.read.line_fault.LineFault.TheVariants.{Want};
-ghost use Rattle.fs_script.specs.Reading.Words.{rank_of, path_of, place_of, span_of, text_of, pattern_of, data_of};
+ghost use Rattle.fs_script.specs.Reading.Words.{rank_of, path_of, place_of, span_of};
+ghost use Rattle.fs_script.specs.Reading.Words.{text_of, pattern_of, data_of};
 ghost use Rattle.fs_script.specs.Returned.{Gives};
 
 use crate::fault::Reason;
