@@ -7,7 +7,7 @@ pub use Rattle.fs_script.proofs.Jobs.{length-data, length-payload}
 pub use Rattle.fs_script.proofs.Reading.Scripts.{script_is_job}
 -- phases rise with the lines, and each client's program has its operations, rising
 pub use Rattle.fs_script.proofs.Fronts.{phase-rises}
-pub use Rattle.fs_script.proofs.Programs.{program-place, program-op}
+pub use Rattle.fs_script.proofs.ProgramPlaces.{program-place, program-op}
 -- what one more answer leaves as it was
 pub use Rattle.fs_script.proofs.Agreement.{pending-agree, over_answers-agree, AddsAnswer-put}
 pub use Rattle.fs_script.proofs.JournalGrows.{own_op-rank, AgreeBefore-next, pending_at-answered, pending_at-next}

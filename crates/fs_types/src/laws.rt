@@ -40,7 +40,7 @@ pub fn showing_gives_a_range()
 {}
 
 /// A path is the mount point and components with a slash between each two.
-#[tactic(auto, using(crate::proofs::Grammar::mounted_texts))]
+#[tactic(auto, using(crate::proofs::PathsAndNames::mounted_texts))]
 pub fn paths_are_mounted_texts()
     ensures mounted { PathsAreMountedTexts }
     ensures path { MountedTextsArePaths }
@@ -48,7 +48,7 @@ pub fn paths_are_mounted_texts()
 {}
 
 /// A name is a short text with no space and no end of line, and a path is a name.
-#[tactic(auto, using(crate::proofs::Grammar::name_from_path))]
+#[tactic(auto, using(crate::proofs::PathsAndNames::name_from_path))]
 pub fn names_are_visible_texts()
     ensures path { PathsAreNames }
     ensures bounds { NamesHaveBounds }

@@ -2,7 +2,8 @@
 
 ghost use Rattle.std.specs.Prelude.{◌≡◌};
 ghost use Rattle.fs_script.specs.Reading.Headers.{field, are_few, is_chunk, is_shape};
-ghost use Rattle.fs_script.specs.Reading.Headers.{within_limits, shape_of, shape_of_words, header_of};
+ghost use Rattle.fs_script.specs.Reading.Headers.{within_limits, shape_of};
+ghost use Rattle.fs_script.specs.Reading.Headers.{shape_of_words, header_of};
 
 use crate::fault::ScriptFault;
 use crate::limits::{
@@ -10,7 +11,7 @@ use crate::limits::{
     SPILL_BYTES, SPILL_SLOTS,
 };
 use crate::read::number::read_number;
-use crate::read::pieces::Pieces;
+use crate::read::tokens::Tokens;
 use crate::shape::Shape;
 use fs_types::LineNo;
 
@@ -99,7 +100,7 @@ fn shape(
 }
 
 /// The shape that the words say.
-fn shape_of_words(mut words: Pieces<'_>) -> Result<Shape, ScriptFault>
+fn shape_of_words(mut words: Tokens<'_>) -> Result<Shape, ScriptFault>
     ensures { result ≡ shape_of_words words.entry }
 {
     let servers = words.next().ok_or(ScriptFault::BadHeader)?;
@@ -113,7 +114,7 @@ pub fn header(line: &[u8]) -> Result<Shape, ScriptFault>
     ensures { result ≡ header_of line.now }
 {
     match line.strip_prefix(b"unifyfs 1 ") {
-        Some(words) => shape_of_words(Pieces::new(b' ', words)),
+        Some(words) => shape_of_words(Tokens::new(b' ', words)),
         None => Err(ScriptFault::BadHeader),
     }
 }
