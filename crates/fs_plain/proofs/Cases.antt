@@ -9,9 +9,9 @@ use Rattle.fs_script.specs.Job.{Job}
 use Rattle.fs_script.specs.Pending.{Answering}
 use Rattle.fs_script.proofs.CallerLemmas.{path_a, on_a}
 use Rattle.fs_plain.specs.Blocks.{is_blank, byte_at, first_bytes, byte_put}
-use Rattle.fs_plain.specs.Front.{front_at}
-use Rattle.fs_plain.specs.Kept.{file_kept}
-use Rattle.fs_plain.specs.PlainFile.{attr_of, bytes_in}
+use Rattle.fs_plain.specs.FrontByJournals.{front_at}
+use Rattle.fs_plain.specs.KeptFile.{file_kept}
+use Rattle.fs_plain.specs.FileAttributes.{attr_of, bytes_in}
 
 -- ---- blocks
 
@@ -58,8 +58,8 @@ bytes_of_none = refl
 -- ---- fronts
 
 -- client 0 creates a path and syncs it; after a barrier it syncs it again, and client 1 creates it too
-abbrev pub two_clients : Job
-two_clients = record {
+abbrev pub job_with_barrier : Job
+job_with_barrier = record {
   shape = record { servers = 1; clients = 2; chunk = 64; shmem = 4; spill = 0 };
   lines =
       lines.Op (on_a ops.Create)
@@ -70,18 +70,18 @@ two_clients = record {
       ∷ [];
 }
 
-abbrev pub two_answers : Answering
-two_answers = answer_at ((2, answers.Done 1) ∷ (3, answers.Done 3) ∷ [])
+abbrev pub answers_round_barrier : Answering
+answers_round_barrier = answer_at ((2, answers.Done 1) ∷ (3, answers.Done 3) ∷ [])
 
 -- the first journal of the path counts
-abbrev pub two_journals : List (List ℕ × List ℕ)
-two_journals = (codes "/unifyfs/b", 2 ∷ 2 ∷ 2 ∷ []) ∷ (path_a, 2 ∷ 5 ∷ []) ∷ (path_a, []) ∷ []
+abbrev pub journals_round_barrier : List (List ℕ × List ℕ)
+journals_round_barrier = (codes "/unifyfs/b", 2 ∷ 2 ∷ 2 ∷ []) ∷ (path_a, 2 ∷ 5 ∷ []) ∷ (path_a, []) ∷ []
 
-seen_is_more : front_at two_clients two_answers two_journals 5 ≡ 3
+seen_is_more : front_at job_with_barrier answers_round_barrier journals_round_barrier 5 ≡ 3
 seen_is_more = refl
 
-earlier_phase_is_more : front_at two_clients two_answers two_journals 6 ≡ 1
+earlier_phase_is_more : front_at job_with_barrier answers_round_barrier journals_round_barrier 6 ≡ 1
 earlier_phase_is_more = refl
 
-barrier_has_no_front : front_at two_clients two_answers two_journals 4 ≡ 0
+barrier_has_no_front : front_at job_with_barrier answers_round_barrier journals_round_barrier 4 ≡ 0
 barrier_has_no_front = refl

@@ -1,3 +1,3 @@
 mod Blocks
-mod Pieces
+mod ConsecutivePuts
 mod Cases

@@ -1,5 +1,5 @@
-pub mod Journals
-pub mod PlainFile
-pub mod Front
+pub mod JournalEntries
+pub mod FileAttributes
+pub mod FrontByJournals
 pub mod Blocks
-pub mod Kept
+pub mod KeptFile

@@ -5,7 +5,7 @@ ghost use Rattle.fs_types.specs.AnswerList.{answer_at};
 ghost use Rattle.fs_script.specs.AnswerKinds.{version_of};
 ghost use Rattle.fs_script.specs.Pending.{one_more};
 ghost use Rattle.fs_script.specs.Front.{at_least, of_earlier_phases, seen};
-ghost use Rattle.fs_plain.specs.Front.{front_at};
+ghost use Rattle.fs_plain.specs.FrontByJournals.{front_at};
 
 use crate::answer_kinds::version_of;
 use crate::journals::Journals;

@@ -25,7 +25,7 @@ impl Model for Journals {
 
     ghost Value = { List (List ℕ × List ℕ) };
 
-    ghost use Rattle.fs_plain.specs.Journals.{entries_of};
+    ghost use Rattle.fs_plain.specs.JournalEntries.{entries_of};
 
     ghost view = { λ j. entries_of j.journals.items };
 }

@@ -24,7 +24,7 @@ fn rest_of_block(at: u64) -> u64
 
 // Puts what line `n` writes from its byte `from` on, to the end of the block where that stands, and
 // says how far it has come.
-fn put_piece(
+fn put_in_block(
     alloc: Global,
     s: &Script,
     n: LineNo,
@@ -41,15 +41,15 @@ fn put_piece(
         (take (to - from) (drop from (payload s.now n)))) }
 {
     let count = rest_of_block(off + from).min(s.payload_len(n) - from);
-    let mut piece = [0; BLOCK];
-    let piece = &mut piece[..count as usize];
-    s.payload_into(n, from, piece);
-    bytes.put(alloc, off + from, piece)?;
+    let mut part = [0; BLOCK];
+    let part = &mut part[..count as usize];
+    s.payload_into(n, from, part);
+    bytes.put(alloc, off + from, part)?;
     Ok(from + count)
 }
 
 // Puts what line `n` writes from place `off` of the file on.
-#[tactic(auto, using(crate::proofs::Pieces::piece_laws))]
+#[tactic(auto, using(crate::proofs::ConsecutivePuts::consecutive_puts))]
 fn put_payload(
     alloc: Global,
     s: &Script,
@@ -64,7 +64,7 @@ fn put_payload(
     let len = s.payload_len(n);
     let mut from = 0;
     while from < len {
-        from = put_piece(alloc, s, n, off, from, bytes)?;
+        from = put_in_block(alloc, s, n, off, from, bytes)?;
     }
     Ok(())
 }

@@ -2,7 +2,7 @@
 
 ghost use Rattle.std.specs.Prelude.{◌≡◌, option_copied, IfOk, OnOk};
 ghost use Rattle.fs_types.specs.AnswerList.{answer_at};
-ghost use Rattle.fs_script.specs.Pending.{after_answer, one_more, pending, pending_at};
+ghost use Rattle.fs_script.specs.Pending.{after_answer, pending_after, pending, pending_at};
 
 use crate::answer_kinds::{empties, is_accepted};
 use crate::lines::{op_of, own_op};
@@ -38,7 +38,7 @@ fn note_line(
     pending: &mut Vec<LineNo>,
 ) -> Result<(), Want>
     ensures { OnOk result (pending.new.items
-        ≡ one_more after_answer (option_copied op.entry) (option_copied a.entry) n pending.old.items) }
+        ≡ pending_after (option_copied op.entry) (option_copied a.entry) n pending.old.items) }
 {
     match (op, a) {
         (Some(op), Some(a)) => note_answer(op, a, n, pending),

@@ -1,10 +1,11 @@
 //! A file as its definition has it: none, or bytes and whether it is frozen.
 
-ghost use Rattle.std.specs.Prelude.{◌≡◌, ◌<◌, ◌∷◌, [], false, is_some, length, slice_index, None, Some, OnOk};
+ghost use Rattle.std.specs.Prelude.{◌≡◌, ◌<◌, ◌∷◌, [], false, length, slice_index};
+ghost use Rattle.std.specs.Prelude.{None, Some, is_some, OnOk};
 ghost use Rattle.fs_types.specs.PlainFile.{is_open_to_change};
 ghost use Rattle.fs_script.specs.Payload.{bytes_of};
 ghost use Rattle.fs_script.specs.Effect.{with_lines};
-ghost use Rattle.fs_plain.specs.PlainFile.{attr_of, bytes_in};
+ghost use Rattle.fs_plain.specs.FileAttributes.{attr_of, bytes_in};
 
 use crate::payload;
 use crate::sparse_bytes::SparseBytes;
@@ -15,7 +16,7 @@ use std::marker::Model;
 
 /// A file that is there.
 #[derive(Debug, Drop)]
-struct Content {
+struct SparseFile {
     bytes: SparseBytes,
     frozen: bool,
 }
@@ -23,7 +24,7 @@ struct Content {
 /// A file, or none. A clause sees none, or the list of its bytes and whether it is frozen.
 #[derive(Debug, Drop)]
 pub struct PlainFile {
-    content: Option<Content>,
+    content: Option<SparseFile>,
 }
 
 impl Model for PlainFile {
@@ -32,7 +33,7 @@ impl Model for PlainFile {
 
     ghost Value = { File ℕ };
 
-    ghost use Rattle.fs_plain.specs.Kept.{file_kept};
+    ghost use Rattle.fs_plain.specs.KeptFile.{file_kept};
 
     ghost view = { λ f. file_kept f.content };
 }
@@ -49,7 +50,7 @@ impl PlainFile {
     pub(crate) fn empty(alloc: Global) -> PlainFile
         ensures { result ≡ Some (record { cells = []; frozen = false }) }
     {
-        let content = Content {
+        let content = SparseFile {
             bytes: SparseBytes::new(alloc),
             frozen: false,
         };

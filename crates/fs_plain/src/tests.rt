@@ -44,7 +44,8 @@ barrier
 1 read /unifyfs/a 0 1
 ";
 
-// The first byte of a pattern is its seed modulo 256: a seven, a zero over it, and a zero far behind.
+// The first byte of a pattern is its seed modulo 256: a seven, a zero over it, and a zero far
+// behind.
 const ZEROS: &[u8] = b"unifyfs 1 servers=1 clients=1 chunk=64 shmem=4 spill=0
 0 create /unifyfs/a
 0 write /unifyfs/a 5000 p:7:1

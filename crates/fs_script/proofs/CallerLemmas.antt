@@ -7,7 +7,7 @@ pub use Rattle.fs_script.proofs.Jobs.{length-data, length-payload}
 pub use Rattle.fs_script.proofs.Reading.Scripts.{script_is_job}
 -- phases rise with the lines, and each client's program has its operations, rising
 pub use Rattle.fs_script.proofs.Fronts.{phase-rises}
-pub use Rattle.fs_script.proofs.Programs.{program-place, program-op}
+pub use Rattle.fs_script.proofs.ProgramPlaces.{program-place, program-op}
 -- what one more answer leaves as it was
 pub use Rattle.fs_script.proofs.Agreement.{pending-agree, over_answers-agree, AddsAnswer-put}
 pub use Rattle.fs_script.proofs.JournalGrows.{own_op-rank, AgreeBefore-next, pending_at-answered, pending_at-next}
@@ -24,6 +24,7 @@ pub use Rattle.fs_script.proofs.AnsweredLines.{rises_past, lines-passing}
 -- plain lists, ranges and options
 pub use Rattle.fs_script.proofs.PlainLists.{some_of, none_from-is_some}
 pub use Rattle.fs_script.proofs.PlainLists.{AllByRecursion-from_get, AllByRecursion-weaker, AllByRecursion-push, slice_get-push_last}
+pub use Rattle.fs_script.proofs.PlainLists.{slice_get-set_same, slice_get-set_other, items-unwrap_or, Contains-one_more}
 pub use Rattle.fs_script.proofs.PlainLists.{range-push, slice_get-range}
 pub use Rattle.fs_script.proofs.PlainLists.{passes, passing-rise, passing-place, passing-places}
 -- the script of five lines, for worked cases

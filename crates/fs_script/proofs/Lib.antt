@@ -17,7 +17,7 @@ pub mod Cases
 mod TableCases
 mod TwoPhases
 pub mod Jobs
-pub mod Programs
+pub mod ProgramPlaces
 pub mod AnsweredLines
 pub mod SoFar
 pub mod Finished

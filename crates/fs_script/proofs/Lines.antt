@@ -1,4 +1,4 @@
--- The pieces and the lines of a text, one after the other.
+-- The tokens and the lines of a text, one after the other.
 use Rattle.std.proofs.Common.{◌≡◌, ℕ, ◌+◌, ◌<◌, ◌≤◌, ◌==◌, Bool, false, List, [], ◌∷◌, length, take, drop, Some, None, refl, sym, ap, ◌∙◌, arith, ◌++◌, Result, Ok, Err, append_assoc, length-append}
 use Rattle.std.specs.List.{position, position_or_len, All}
 use Rattle.std.proofs.lemmas.List.Splits.{slice_split_first, slice_split_none, length-slice_split}
@@ -8,11 +8,11 @@ use Rattle.fs_script.specs.declared.line.Line.{Line}
 use Rattle.fs_script.specs.declared.fault.ScriptFault.{ScriptFault}
 use Rattle.fs_script.specs.declared.shape.Shape.{Shape}
 use Rattle.fs_script.specs.Reading.Steps.{◌>>=◌}
-use Rattle.fs_script.specs.Reading.Pieces.{pieces, without_empty_end, lines_of}
+use Rattle.fs_script.specs.Reading.Tokens.{tokens, without_empty_end, lines_of}
 use Rattle.fs_script.specs.Reading.Lines.{line_of}
 use Rattle.fs_script.specs.Reading.Scripts.{numbered, lines_from}
 
--- ---- pieces
+-- ---- tokens
 
 abbrev is_at : ℕ → ℕ → Bool
 is_at c b = b == c
@@ -23,19 +23,19 @@ some_position c bs i e = grind (arith, nat_tests)
 no_position : (c : ℕ) (bs : List ℕ) → position (is_at c) bs ≡ None → length bs ≤ position_or_len (is_at c) bs
 no_position c bs e = grind (arith, nat_tests)
 
-pub record IsFirstPiece (c : ℕ) (bs : List ℕ) (i : ℕ) : Type 0 where
-  pub pieces : pieces c bs ≡ take i bs ∷ pieces c (drop (i + 1) bs)
+pub record IsFirstToken (c : ℕ) (bs : List ℕ) (i : ℕ) : Type 0 where
+  pub tokens : tokens c bs ≡ take i bs ∷ tokens c (drop (i + 1) bs)
   pub within : i < length bs
 
-pub first_piece : (c : ℕ) (bs : List ℕ) (i : ℕ) → position (is_at c) bs ≡ Some i → IsFirstPiece c bs i
-first_piece c bs i e =
+pub first_token : (c : ℕ) (bs : List ℕ) (i : ℕ) → position (is_at c) bs ≡ Some i → IsFirstToken c bs i
+first_token c bs i e =
     let p = some_position c bs i e in
     let n = position_or_len (is_at c) bs in
-    let first : pieces c bs ≡ take n bs ∷ pieces c (drop (n + 1) bs) = slice_split_first (is_at c) bs 0 (rw (← p.0) p.1) in
-    record { pieces = rw p.0 first; within = p.1 }
+    let first : tokens c bs ≡ take n bs ∷ tokens c (drop (n + 1) bs) = slice_split_first (is_at c) bs 0 (rw (← p.0) p.1) in
+    record { tokens = rw p.0 first; within = p.1 }
 
-pub last_piece : (c : ℕ) (bs : List ℕ) → position (is_at c) bs ≡ None → pieces c bs ≡ bs ∷ []
-last_piece c bs e =
+pub last_token : (c : ℕ) (bs : List ℕ) → position (is_at c) bs ≡ None → tokens c bs ≡ bs ∷ []
+last_token c bs e =
     let none : All (λ x. is_at c x ≡ false) bs = λ k d below. fails_before_first (is_at c) bs k d (omega (arith, no_position c bs e)) in
     slice_split_none (is_at c) bs none
 
@@ -48,14 +48,14 @@ keeps_end l (m ∷ ls) lt = refl
 pub first_line : (bs : List ℕ) (i : ℕ) → position (is_at 10) bs ≡ Some i → lines_of bs ≡ take i bs ∷ lines_of (drop (i + 1) bs)
 first_line bs i e =
     let rest = drop (i + 1) bs in
-    let some : 0 < length (pieces 10 rest) = omega (arith, length-slice_split (is_at 10) rest) in
-    ap without_empty_end (first_piece 10 bs i e).pieces ∙ keeps_end (take i bs) (pieces 10 rest) some
+    let some : 0 < length (tokens 10 rest) = omega (arith, length-slice_split (is_at 10) rest) in
+    ap without_empty_end (first_token 10 bs i e).tokens ∙ keeps_end (take i bs) (tokens 10 rest) some
 
 no_empty_end : (l : List ℕ) → 0 < length l → without_empty_end (l ∷ []) ≡ l ∷ []
 no_empty_end l lt = grind (arith, nat_tests)
 
 pub last_line : (bs : List ℕ) → position (is_at 10) bs ≡ None → 0 < length bs → lines_of bs ≡ bs ∷ []
-last_line bs e lt = ap without_empty_end (last_piece 10 bs e) ∙ no_empty_end bs lt
+last_line bs e lt = ap without_empty_end (last_token 10 bs e) ∙ no_empty_end bs lt
 
 -- ---- the lines that were read before, and those that are still read
 

@@ -5,4 +5,4 @@ pub mod Words
 pub mod Headers
 pub mod OpLines
 pub mod Scripts
-pub mod Faults
+pub mod WithoutWant

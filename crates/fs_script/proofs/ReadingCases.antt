@@ -49,8 +49,8 @@ abbrev two_bytes : List ℕ
 two_bytes =
     two_header ++ codes "\n# both clients\n0 create /unifyfs/a\nbarrier\n1 write /unifyfs/a 8 p:7:4\n\n1 read /unifyfs/a 0 16777216"
 
-abbrev two_clients : Job
-two_clients = record {
+abbrev two_job : Job
+two_job = record {
   shape = two_shape;
   lines =
       lines.Note
@@ -62,7 +62,7 @@ two_clients = record {
       ∷ [];
 }
 
-two_clients_read : job_of two_bytes ≡ Ok two_clients
+two_clients_read : job_of two_bytes ≡ Ok two_job
 two_clients_read = refl
 
 pattern_of_seven : data_bytes (Pattern 7 4) ≡ 7 ∷ 38 ∷ 69 ∷ 100 ∷ []

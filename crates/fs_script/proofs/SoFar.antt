@@ -4,7 +4,7 @@ use Rattle.fs_types.proofs.Common.{true≢false, sym, ap, ◌∙◌, subst, inl,
 use Rattle.fs_types.proofs.Common.{same_Some, bytes_eq-Decides}
 use Rattle.fs_script.specs.Vocabulary.{Answer, OpLine, Job, op_at, rank_in, phase, Answering, pending, pending_at, front, is_enabled, state}
 use Rattle.fs_script.specs.Vocabulary.{Fits, commit_by, committed, enabled_in, IsLegalJournal, AddsAnswer, IsOfNoEarlierPhase, AllFit}
-use Rattle.fs_script.specs.Vocabulary.{Journals, IsLegalSoFar, IsNextAnswer, Pushes}
+use Rattle.fs_script.specs.Vocabulary.{JournalsByPath, IsLegalSoFar, IsNextAnswer, Pushes}
 use Rattle.fs_script.proofs.FitsGrows.{Fits-agree, Fits-grows}
 use Rattle.fs_script.proofs.JournalGrows.{pending_at-next, AgreeBefore-next, AgreeBefore-answered, pending_at-in_journal}
 use Rattle.fs_script.proofs.JournalGrows.{answered-in_journal, IsLegalJournal-kept, IsLegalJournal-commit}
@@ -24,7 +24,7 @@ committed-off s A n o p is off = grind (arith, common_steps, false_from_ne_true,
 
 -- ---- before any answer
 
-pub IsLegalSoFar-none : (told : List ℕ) (s : Job) (A : Answering) (journals : Journals) → ((n : ℕ) → A n ≡ None)
+pub IsLegalSoFar-none : (told : List ℕ) (s : Job) (A : Answering) (journals : JournalsByPath) → ((n : ℕ) → A n ≡ None)
     → ((p : List ℕ) → journals p ≡ []) → IsLegalSoFar told s A journals
 IsLegalSoFar-none told s A journals none empty = grind (arith, common_steps)
 
@@ -53,7 +53,7 @@ AllFit-kept {told} {s} {A} {B} {J} {n} {o} {a} {p} here legal fit new =
     }
 
 -- an answer that commits nothing and fits
-pub IsLegalSoFar-kept : {told : List ℕ} {s : Job} {A B : Answering} {journals : Journals} {n : ℕ} {o : OpLine} {a : Answer}
+pub IsLegalSoFar-kept : {told : List ℕ} {s : Job} {A B : Answering} {journals : JournalsByPath} {n : ℕ} {o : OpLine} {a : Answer}
     → IsNextAnswer s A n o a B → IsLegalSoFar told s A journals
     → commit_by o.op (pending s B o.rank o.path n) (B n) ≡ None → Fits told s A (journals o.path) n o a → IsLegalSoFar told s B journals
 IsLegalSoFar-kept {told} {s} {A} {B} {journals} {n} {o} {a} here so_far none fits = record {
@@ -88,7 +88,7 @@ AllFit-commit {told} {s} {A} {B} {J} {n} {o} {a} here legal fit new =
     }
 
 -- an answer that commits its line, which is enabled, and fits in the journal with the line at its end
-pub IsLegalSoFar-commit : {told : List ℕ} {s : Job} {A B : Answering} {journals after : Journals} {n : ℕ} {o : OpLine} {a : Answer}
+pub IsLegalSoFar-commit : {told : List ℕ} {s : Job} {A B : Answering} {journals after : JournalsByPath} {n : ℕ} {o : OpLine} {a : Answer}
     → IsNextAnswer s A n o a B → IsLegalSoFar told s A journals → Pushes journals o.path n after
     → commit_by o.op (pending s B o.rank o.path n) (B n) ≡ Some (suc (length (journals o.path)))
     → is_enabled o.op (state s A (journals o.path) (length (journals o.path))) ≡ true

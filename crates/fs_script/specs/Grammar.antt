@@ -14,7 +14,7 @@ use Rattle.fs_script.specs.declared.line.Op.TheVariants as ops
 use Rattle.fs_script.specs.declared.line.Data.{Data}
 use Rattle.fs_script.specs.declared.line.Data.TheVariants.{Text, Pattern}
 use Rattle.fs_script.specs.Job.{Job}
-use Rattle.fs_script.specs.Reading.Pieces.{lines_of}
+use Rattle.fs_script.specs.Reading.Tokens.{lines_of}
 
 -- ---- the header
 

@@ -10,7 +10,7 @@ use Rattle.fs_script.specs.Fits.{AreTold, Fits}
 use Rattle.fs_script.specs.Grammar.{IsJob}
 use Rattle.fs_script.specs.Journal.{commit_by}
 use Rattle.fs_script.specs.Printable.{IsPrintable}
-use Rattle.fs_script.specs.SoFar.{Journals, IsLegalSoFar, IsNextAnswer, Pushes}
+use Rattle.fs_script.specs.SoFar.{JournalsByPath, IsLegalSoFar, IsNextAnswer, Pushes}
 use Rattle.fs_script.specs.Report.{Report, HasShape, FilesAreStates, IsLegal, answers_of, journal_of}
 use Rattle.fs_script.specs.Text.{text, line_feed}
 
@@ -18,20 +18,20 @@ use Rattle.fs_script.specs.Text.{text, line_feed}
 
 -- before any answer, a job with empty journals is legal so far
 abbrev pub NothingIsLegal : Type 0
-NothingIsLegal = (told : List ℕ) (s : Job) (A : Answering) (journals : Journals)
+NothingIsLegal = (told : List ℕ) (s : Job) (A : Answering) (journals : JournalsByPath)
     → ((n : ℕ) → A n ≡ None) → ((p : List ℕ) → journals p ≡ []) → IsLegalSoFar told s A journals
 
 -- it stays so as an answer comes that commits nothing and fits
 abbrev pub AnswersKeepJobsLegal : Type 0
 AnswersKeepJobsLegal =
-    (told : List ℕ) (s : Job) (A B : Answering) (journals : Journals) (n : ℕ) (o : OpLine) (a : Answer)
+    (told : List ℕ) (s : Job) (A B : Answering) (journals : JournalsByPath) (n : ℕ) (o : OpLine) (a : Answer)
     → IsNextAnswer s A n o a B → IsLegalSoFar told s A journals → commit_by o.op (pending s B o.rank o.path n) (B n) ≡ None
     → Fits told s A (journals o.path) n o a → IsLegalSoFar told s B journals
 
 -- and as one comes that commits its line, which is enabled, and fits in the journal with the line at its end
 abbrev pub CommitsKeepJobsLegal : Type 0
 CommitsKeepJobsLegal =
-    (told : List ℕ) (s : Job) (A B : Answering) (journals after : Journals) (n : ℕ) (o : OpLine) (a : Answer)
+    (told : List ℕ) (s : Job) (A B : Answering) (journals after : JournalsByPath) (n : ℕ) (o : OpLine) (a : Answer)
     → IsNextAnswer s A n o a B → IsLegalSoFar told s A journals → Pushes journals o.path n after
     → commit_by o.op (pending s B o.rank o.path n) (B n) ≡ Some (suc (length (journals o.path)))
     → is_enabled o.op (state s A (journals o.path) (length (journals o.path))) ≡ true

@@ -31,6 +31,10 @@ one_more step None a n x = x
 one_more step (Some op) None n x = x
 one_more step (Some op) (Some a) n x = step op a n x
 
+-- what is pending after line n, where a client's own operation on a path may stand and may have an answer
+abbrev pub pending_after : Option Op → Option Answer → ℕ → List ℕ → List ℕ
+pending_after = one_more after_answer
+
 -- what the answers before line n to client r on path p make of x, one after the other
 abbrev pub over_answers : {X : Type 0} → (Op → Answer → ℕ → X → X) → X → Job → Answering → ℕ → List ℕ → ℕ → X
 over_answers step x s A r p zero = x

@@ -1,6 +1,6 @@
 -- Reading a script from left to right, up to the first fault, part by part.
 pub mod Steps
-pub mod Pieces
+pub mod Tokens
 pub mod Numbers
 pub mod Headers
 pub mod Words

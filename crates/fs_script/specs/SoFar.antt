@@ -8,11 +8,11 @@ use Rattle.fs_script.specs.Journal.{IsLegalJournal}
 use Rattle.fs_script.specs.Growth.{AddsAnswer, ComesNext, AllFit}
 
 -- the journals by path
-abbrev pub Journals : Type 0
-Journals = List ℕ → List ℕ
+abbrev pub JournalsByPath : Type 0
+JournalsByPath = List ℕ → List ℕ
 
 -- each path's journal is legal, and each answer so far fits the journal of its path
-pub record IsLegalSoFar (told : List ℕ) (s : Job) (A : Answering) (journals : Journals) : Type 0 where
+pub record IsLegalSoFar (told : List ℕ) (s : Job) (A : Answering) (journals : JournalsByPath) : Type 0 where
   pub legal : (p : List ℕ) → IsLegalJournal s A p (journals p)
   pub fit : (p : List ℕ) → AllFit told s A p (journals p)
 
@@ -24,6 +24,6 @@ pub record IsNextAnswer (s : Job) (A : Answering) (n : ℕ) (o : OpLine) (a : An
   pub phases : (m : ℕ) → IsSome (A m) → phase s m ≤ phase s n
 
 -- the journals with line n at the end of that of path p
-pub record Pushes (journals : Journals) (p : List ℕ) (n : ℕ) (after : Journals) : Type 0 where
+pub record Pushes (journals : JournalsByPath) (p : List ℕ) (n : ℕ) (after : JournalsByPath) : Type 0 where
   pub here : after p ≡ journals p ++ n ∷ []
   pub others : (q : List ℕ) → p ≢ q → after q ≡ journals q

@@ -25,7 +25,7 @@ pub use Rattle.fs_script.specs.Printable.{AreBytes, IsPrintableBody, IsPrintable
 pub use Rattle.fs_script.specs.Printable.{IsPrintableState, IsPrintableFile, IsPrintable, IsDigest}
 pub use Rattle.fs_script.specs.Report.{Report, HasShape, FilesAreStates, IsLegal, answers_of, journal_of, AreRising, file_state_of}
 pub use Rattle.fs_script.specs.Report.{ArePaths}
-pub use Rattle.fs_script.specs.SoFar.{IsLegalSoFar, Journals, IsNextAnswer, Pushes}
+pub use Rattle.fs_script.specs.SoFar.{IsLegalSoFar, JournalsByPath, IsNextAnswer, Pushes}
 pub use Rattle.fs_script.specs.Text.{text, answer_words, answer_line, body_text, entry_text, journal_line, flag_text, file_words, file_line}
 pub use Rattle.fs_script.specs.Text.{path_lines, line_feed}
 pub use Rattle.fs_script.specs.declared.fault.ScriptFault.{ScriptFault}

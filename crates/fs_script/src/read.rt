@@ -5,7 +5,7 @@ ghost use Rattle.fs_script.specs.declared.fault.ScriptFault.TheVariants.{Want};
 ghost use Rattle.fs_script.specs.declared.limits.TheConstants.{LINE_LIMIT, SCRIPT_LIMIT};
 ghost use Rattle.fs_script.specs.Job.{Job};
 ghost use Rattle.fs_script.specs.Grammar.{IsScript};
-ghost use Rattle.fs_script.specs.Reading.Pieces.{lines_of};
+ghost use Rattle.fs_script.specs.Reading.Tokens.{lines_of};
 ghost use Rattle.fs_script.specs.Reading.Lines.{line_of};
 ghost use Rattle.fs_script.specs.Reading.Scripts.{numbered, lines_from, lines_after_header, job_of};
 ghost use Rattle.fs_script.specs.Returned.{Gives};
@@ -16,7 +16,7 @@ mod line_fault;
 mod lines;
 mod number;
 mod op_kind;
-mod pieces;
+mod tokens;
 mod word;
 
 use crate::fault::ScriptFault;

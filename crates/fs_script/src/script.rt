@@ -1,6 +1,7 @@
 //! A script that was read.
 
-ghost use Rattle.std.specs.Prelude.{◌≡◌, ◌<◌, ◌≤◌, ◌+◌, length, take, drop, map, count_by, option_copied, IsSome, IfOk};
+ghost use Rattle.std.specs.Prelude.{◌≡◌, ◌<◌, ◌≤◌, ◌+◌, length, take, drop, map, count_by};
+ghost use Rattle.std.specs.Prelude.{option_copied, IsSome, IfOk};
 ghost use Rattle.std.specs.List.{range_with_len};
 ghost use Rattle.fs_script.specs.Grammar.{IsJob};
 ghost use Rattle.fs_script.specs.Job.{is_barrier, line_at, phase};

@@ -9,4 +9,4 @@ pub use Rattle.fs_types.proofs.AnswerOrder.{IsRisingFrom-put_answer, answer_at-p
 pub use Rattle.fs_types.proofs.Overwrites.{length-put, get_or-put, length-shown}
 pub use Rattle.fs_types.proofs.PlainFiles.{All-written, length-written}
 -- each byte of a path is visible
-pub use Rattle.fs_types.proofs.Grammar.{path_is_visible}
+pub use Rattle.fs_types.proofs.PathsAndNames.{path_is_visible}

@@ -4,7 +4,7 @@ pub mod Tables
 pub mod Overwrites
 pub mod PlainFiles
 pub mod AnswerOrder
-pub mod Grammar
+pub mod PathsAndNames
 mod Cases
 mod OverwriteCases
 mod FragmentCases

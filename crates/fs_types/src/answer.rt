@@ -4,7 +4,8 @@ use crate::digest::Digest16;
 use crate::number::{Rank, Version};
 use crate::short_bytes::ShortBytes;
 
-/// The bytes that a read shows, or their digest where they are more than [`HEX_LIMIT`](crate::HEX_LIMIT).
+/// The bytes that a read shows, or their digest where they are more than
+/// [`HEX_LIMIT`](crate::HEX_LIMIT).
 #[derive(Debug, Drop)]
 pub enum Body {
     Hex(ShortBytes),

@@ -1,10 +1,14 @@
-//! Laws of answers, of overwriting, and of paths and names. Each function is empty: its contract is the law.
+//! Laws of answers, of overwriting, and of paths and names. Each function is empty: its contract is
+//! the law.
 
 ghost use Rattle.std.specs.Prelude.{ℕ};
-ghost use Rattle.fs_types.specs.AnswerLaws.{AnswersDecideTheList, GivenAnswersRise, PutsAboveAtEnd, PutsInOrder, PutsOneAnswer};
+ghost use Rattle.fs_types.specs.AnswerLaws.{AnswersDecideTheList, GivenAnswersRise};
+ghost use Rattle.fs_types.specs.AnswerLaws.{PutsAboveAtEnd, PutsInOrder, PutsOneAnswer};
 ghost use Rattle.fs_types.specs.Marks.{no_mark};
 ghost use Rattle.fs_types.specs.OverwriteLaws.{CutsFirstPlaces, OverwritesByPlace, ShowsRange};
-ghost use Rattle.fs_types.specs.PathLaws.{MountedTextsArePaths, NamesAreVisible, NamesHaveBounds, PathsAreMountedTexts, PathsAreNames, PathsHaveBounds};
+ghost use Rattle.fs_types.specs.PathLaws.{MountedTextsArePaths, PathsAreMountedTexts};
+ghost use Rattle.fs_types.specs.PathLaws.{NamesAreVisible, NamesHaveBounds};
+ghost use Rattle.fs_types.specs.PathLaws.{PathsAreNames, PathsHaveBounds};
 
 /// Answers are put one by one, and are kept in the order of their lines.
 #[tactic(auto, using(crate::proofs::AnswerOrder::answers_in_a_table))]
@@ -36,7 +40,7 @@ pub fn showing_gives_a_range()
 {}
 
 /// A path is the mount point and components with a slash between each two.
-#[tactic(auto, using(crate::proofs::Grammar::mounted_from_path, crate::proofs::Grammar::path_from_mounted))]
+#[tactic(auto, using(crate::proofs::PathsAndNames::mounted_texts))]
 pub fn paths_are_mounted_texts()
     ensures mounted { PathsAreMountedTexts }
     ensures path { MountedTextsArePaths }
@@ -44,7 +48,7 @@ pub fn paths_are_mounted_texts()
 {}
 
 /// A name is a short text with no space and no end of line, and a path is a name.
-#[tactic(auto, using(crate::proofs::Grammar::name_from_path))]
+#[tactic(auto, using(crate::proofs::PathsAndNames::name_from_path))]
 pub fn names_are_visible_texts()
     ensures path { PathsAreNames }
     ensures bounds { NamesHaveBounds }

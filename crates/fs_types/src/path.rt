@@ -2,7 +2,8 @@
 
 ghost use Rattle.std.specs.Prelude.{◌≡◌, ◌↔◌, IfOk, OnOk, IsTrue, IsErrOf};
 ghost use Rattle.std.specs.List.{list_all};
-ghost use Rattle.fs_types.specs.PathText.{IsPath, between_slashes, is_component, is_name_character, is_path};
+ghost use Rattle.fs_types.specs.PathText.{IsPath, between_slashes, is_component};
+ghost use Rattle.fs_types.specs.PathText.{is_name_character, is_path};
 
 use crate::limits::LONGEST_PATH;
 use crate::want::Want;

@@ -1,6 +1,7 @@
 //! Readers of pieces.
 
-ghost use Rattle.std.specs.Prelude.{◌≡◌, ◌≤◌, ◌+◌, ℕ, Bool, List, length, slice_range, IsTrue, IfErr, OnOk, OnErr};
+ghost use Rattle.std.specs.Prelude.{◌≡◌, ◌≤◌, ◌+◌, ℕ, Bool, List, length, slice_range};
+ghost use Rattle.std.specs.Prelude.{IsTrue, IfErr, OnOk, OnErr};
 ghost use Rattle.fs_types.specs.Faults.{HasRisen};
 
 use crate::dev_fault::DevFault;

@@ -11,7 +11,14 @@ use md5::{Digest, Md5};
 pub fn gfid_of(p: &Path) -> u64
     ensures { result ≡ gfid p.now }
 {
-    gfid_of_digest(&Md5::digest(p.as_bytes()))
+    gfid_of_bytes(p.as_bytes())
+}
+
+/// The gfid of the path that these bytes spell.
+pub fn gfid_of_bytes(path: &[u8]) -> u64
+    ensures { result ≡ gfid path.now }
+{
+    gfid_of_digest(&Md5::digest(path))
 }
 
 /// The number that the first eight bytes of a digest spell, the highest first.

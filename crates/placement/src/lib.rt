@@ -6,7 +6,7 @@
 mod gfid;
 mod server;
 
-pub use gfid::{gfid_of, gfid_of_digest};
+pub use gfid::{gfid_of, gfid_of_bytes, gfid_of_digest};
 pub use server::{node_of, owner_of};
 
 #[cfg(test)]

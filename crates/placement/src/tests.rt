@@ -14,6 +14,7 @@ fn gfids_begin_the_digests_of_md5sum(rt: HostRuntime) -> Result<(), Fail> {
     for (text, gfid) in cases {
         let path = Path::read(rt.alloc(), text)?;
         assert_eq!(rt; gfid_of(&path), gfid);
+        assert_eq!(rt; gfid_of_bytes(text), gfid);
     }
     Ok(())
 }

@@ -13,12 +13,12 @@ use Rattle.fs_script.specs.declared.fault.ScriptFault.TheVariants as faults
 use Rattle.fs_script.specs.declared.limits.TheConstants.{SERVER_LIMIT, CLIENT_LIMIT, LEAST_CHUNK, MOST_CHUNK, CHUNK_UNIT, MEMORY_SLOTS, MEMORY_BYTES, SPILL_SLOTS, SPILL_BYTES}
 use Rattle.fs_script.specs.declared.shape.Shape.{Shape}
 use Rattle.fs_script.specs.Grammar.{shape_words, header_text, AreFew, IsShape}
-use Rattle.fs_script.specs.Reading.Pieces.{words_of}
+use Rattle.fs_script.specs.Reading.Tokens.{words_of}
 use Rattle.fs_script.specs.Reading.Numbers.{number_of}
 use Rattle.fs_script.specs.Reading.Headers.{field, are_few, is_shape, shape_of, shape_of_words, header_of}
 use Rattle.fs_script.proofs.Reading.Steps.{bind_ok, guard, test, some_is}
 use Rattle.fs_script.proofs.Reading.Numbers.{number_is_text, text_is_number}
-use Rattle.fs_script.proofs.Reading.Words.{IsWord, is_word-append, is_word-decimal, pieces_joined, pieces_again}
+use Rattle.fs_script.proofs.Reading.Words.{IsWord, is_word-append, is_word-decimal, tokens_joined, tokens_again}
 
 -- ---- the numbers of a shape
 
@@ -124,7 +124,7 @@ header_is_text line h e =
     let rest = drop 10 line in
     let g = guard (starts_with nat_eq line begin) (shape_of_words (words_of rest)) faults.BadHeader h e in
     let w = words_are (words_of rest) h g.1 in
-    let joined : rest ≡ join_with_byte 32 (shape_words h) = sym (pieces_joined 32 rest) ∙ ap (join_with_byte 32) w.1 in
+    let joined : rest ≡ join_with_byte 32 (shape_words h) = sym (tokens_joined 32 rest) ∙ ap (join_with_byte 32) w.1 in
     (w.0, (starts_is Decides-eqb line begin (starts_with nat_eq line begin) refl).0 g.0 ∙ ap (λ r. begin ++ r) joined)
 
 -- the text of a shape is read
@@ -138,7 +138,7 @@ text_is_header h s =
     let word : (name : List ℕ) (n : ℕ) → n < 2 ^ 64 → IsWord 32 name → IsWord 32 (name ++ decimal n) =
     λ name n lt w. is_word-append 32 name (decimal n) w (is_word-decimal 32 n refl lt) in
     let words : words_of (join_with_byte 32 (shape_words h)) ≡ shape_words h =
-    pieces_again 32 (codes "servers=" ++ decimal h.servers)
+    tokens_again 32 (codes "servers=" ++ decimal h.servers)
     ((codes "clients=" ++ decimal h.clients) ∷ (codes "chunk=" ++ decimal h.chunk) ∷ (codes "shmem=" ++ decimal h.shmem)
     ∷ (codes "spill=" ++ decimal h.spill) ∷ [])
     (word (codes "servers=") h.servers servers refl) (

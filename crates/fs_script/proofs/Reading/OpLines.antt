@@ -24,14 +24,14 @@ use Rattle.fs_script.specs.declared.line.Data.{Data}
 use Rattle.fs_script.specs.declared.line.Data.TheVariants.{Text, Pattern}
 use Rattle.fs_script.specs.Grammar.{data_text, op_words, op_text, IsData, IsOp, IsOpLine, IsLine, IsTextOf, is_note}
 use Rattle.fs_script.specs.Reading.Steps.{◌>>=◌}
-use Rattle.fs_script.specs.Reading.Pieces.{pieces, words_of, one_piece, two_pieces, three_pieces}
+use Rattle.fs_script.specs.Reading.Tokens.{tokens, words_of, one_token, two_tokens, three_tokens}
 use Rattle.fs_script.specs.Reading.Numbers.{number_of}
 use Rattle.fs_script.specs.Reading.Words.{or_bad, rank_of, path_of, span_of, text_of, pattern_of, data_of}
 use Rattle.fs_script.specs.Reading.Lines.{kind_of, path_alone, op_of_kind, op_of_words, op_line_of, line_of}
 use Rattle.fs_script.proofs.Number.{own}
 use Rattle.fs_script.proofs.Reading.Steps.{bind_ok, guard, test, some_is, ok_is, choice}
 use Rattle.fs_script.proofs.Reading.Numbers.{IsNumber, number_is_text, text_is_number}
-use Rattle.fs_script.proofs.Reading.Words.{IsWord, is_word-append, is_word-decimal, is_word-text, is_word-path, one_is, two_are, three_are, pieces_joined, pieces_again}
+use Rattle.fs_script.proofs.Reading.Words.{IsWord, is_word-append, is_word-decimal, is_word-text, is_word-path, one_is, two_are, three_are, tokens_joined, tokens_again}
 
 -- ---- what is read is spelled so
 
@@ -65,17 +65,17 @@ text_is w d e =
 pattern_text : (seed len : ℕ) → data_text (Pattern seed len) ≡ codes "p:" ++ (decimal seed ++ (58 ∷ decimal len))
 pattern_text seed len = ap (λ r. codes "p:" ++ r) (append_assoc (decimal seed) (58 ∷ []) (decimal len))
 
-pattern_is : (w : List ℕ) (d : Data) → pattern_of (pieces 58 w) ≡ Ok d → IsData d × (codes "p:" ++ w ≡ data_text d)
+pattern_is : (w : List ℕ) (d : Data) → pattern_of (tokens 58 w) ≡ Ok d → IsData d × (codes "p:" ++ w ≡ data_text d)
 pattern_is w d e =
     let a = bind_ok _ _ d e in
     let b = bind_ok _ _ d a.2 in
     let c = bind_ok _ _ d b.2 in
     let t = test (nat_le c.0 TRANSFER_LIMIT) (Pattern b.0 c.0) OverLimit d c.2 in
-    let two = two_are (pieces 58 w) a.0 (some_is (two_pieces (pieces 58 w)) (Bad reasons.Data) a.0 a.1) in
+    let two = two_are (tokens 58 w) a.0 (some_is (two_tokens (tokens 58 w)) (Bad reasons.Data) a.0 a.1) in
     let seed = number_is a.0.0 b.0 reasons.Data b.1 in
     let len = number_is a.0.1 c.0 reasons.Data c.1 in
-    let words : pieces 58 w ≡ decimal b.0 ∷ decimal c.0 ∷ [] = cc in
-    let whole : w ≡ decimal b.0 ++ (58 ∷ decimal c.0) = sym (pieces_joined 58 w) ∙ ap (join_with_byte 58) words in
+    let words : tokens 58 w ≡ decimal b.0 ∷ decimal c.0 ∷ [] = cc in
+    let whole : w ≡ decimal b.0 ++ (58 ∷ decimal c.0) = sym (tokens_joined 58 w) ∙ ap (join_with_byte 58) words in
     subst (λ k. IsData k × (codes "p:" ++ w ≡ data_text k)) t.1
     ((seed.below, leb-true c.0 TRANSFER_LIMIT t.0), ap (λ r. codes "p:" ++ r) whole ∙ sym (pattern_text b.0 c.0))
 
@@ -120,7 +120,7 @@ alone_is : (ws : List (List ℕ)) (p : List ℕ) → path_alone ws ≡ Ok p → 
 alone_is ws p e =
     let b = bind_ok _ _ p e in
     let path = path_is b.0 p b.2 in
-    (path.0, one_is ws b.0 (some_is (one_piece ws) (Bad reasons.Words) b.0 b.1) ∙ ap (λ w. w ∷ []) path.1)
+    (path.0, one_is ws b.0 (some_is (one_token ws) (Bad reasons.Words) b.0 b.1) ∙ ap (λ w. w ∷ []) path.1)
 
 -- an operation that has a path and no other word
 alone_op_is : (o : Op) (name : List ℕ) (ws : List (List ℕ)) (x : List ℕ × Op) → IsOp o → ((p : List ℕ) → op_words o p ≡ name ∷ p ∷ [])
@@ -139,7 +139,7 @@ op_of_kind_is kinds.Write ws x e =
     let b = bind_ok _ _ x a.2 in
     let c = bind_ok _ _ x b.2 in
     let d = bind_ok _ _ x c.2 in
-    let three = three_are ws a.0 (some_is (three_pieces ws) (Bad reasons.Words) a.0 a.1) in
+    let three = three_are ws a.0 (some_is (three_tokens ws) (Bad reasons.Words) a.0 a.1) in
     let path = path_is a.0.0 b.0 b.1 in
     let off = number_is a.0.1 c.0 reasons.Number c.1 in
     let text = data_is a.0.2 d.0 d.1 in
@@ -151,7 +151,7 @@ op_of_kind_is kinds.Read ws x e =
     let b = bind_ok _ _ x a.2 in
     let c = bind_ok _ _ x b.2 in
     let d = bind_ok _ _ x c.2 in
-    let three = three_are ws a.0 (some_is (three_pieces ws) (Bad reasons.Words) a.0 a.1) in
+    let three = three_are ws a.0 (some_is (three_tokens ws) (Bad reasons.Words) a.0 a.1) in
     let path = path_is a.0.0 b.0 b.1 in
     let off = number_is a.0.1 c.0 reasons.Number c.1 in
     let len = span_is a.0.2 d.0 d.1 in
@@ -188,7 +188,7 @@ line_is_text h t l e =
     (λ is found. subst (Says h t) (ok_is lines.Note l found) (tt, is))
     (λ e1. choice (Says h t l) (bytes_eq t (codes "barrier")) _ _ (Ok l) e1
     (λ is found. subst (Says h t) (ok_is lines.Barrier l found) (tt, (bytes_eq-Decides t (codes "barrier")).0 is))
-    (λ rest. subst (λ x. Says h x l) (pieces_joined 32 t) (op_line_is h (words_of t) l rest)))
+    (λ rest. subst (λ x. Says h x l) (tokens_joined 32 t) (op_line_is h (words_of t) l rest)))
 
 -- ---- what is spelled so is read
 
@@ -196,8 +196,8 @@ data_again : (d : Data) → IsData d → data_of (data_text d) ≡ Ok d
 data_again (Text bytes) h = rw (h.0, le-leb (length bytes) TRANSFER_LIMIT h.1) refl
 data_again (Pattern seed len) h =
     let lt : len < 2 ^ 64 = omega (arith, h.1) in
-    let two : pieces 58 (decimal seed ++ (58 ∷ decimal len)) ≡ decimal seed ∷ decimal len ∷ [] =
-    pieces_again 58 (decimal seed) (decimal len ∷ []) (is_word-decimal 58 seed refl h.0) (is_word-decimal 58 len refl lt, tt) in
+    let two : tokens 58 (decimal seed ++ (58 ∷ decimal len)) ≡ decimal seed ∷ decimal len ∷ [] =
+    tokens_again 58 (decimal seed) (decimal len ∷ []) (is_word-decimal 58 seed refl h.0) (is_word-decimal 58 len refl lt, tt) in
     ap data_of (pattern_text seed len) ∙ ap pattern_of two
     ∙ rw (text_is_number seed h.0, text_is_number len lt, le-leb len TRANSFER_LIMIT h.1) refl
 
@@ -249,7 +249,7 @@ op_line_again : (h : Shape) (o : OpLine) → h.clients < 2 ^ 64 → IsOpLine h o
 op_line_again h o few i =
     let lt : o.rank < 2 ^ 64 = omega (arith, i.rank) in
     let words : words_of (op_text o) ≡ decimal o.rank ∷ op_words o.op o.path =
-    pieces_again 32 (decimal o.rank) (op_words o.op o.path) (is_word-decimal 32 o.rank refl lt)
+    tokens_again 32 (decimal o.rank) (op_words o.op o.path) (is_word-decimal 32 o.rank refl lt)
     (words_fit o.op o.path i.op (is_word-path o.path i.path)) in
     let first = rank_first (decimal o.rank) o.op o.path in
     let begins = digit_first h (decimal o.rank) (32 ∷ join_with_byte 32 (op_words o.op o.path))

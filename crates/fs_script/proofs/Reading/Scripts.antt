@@ -11,7 +11,7 @@ use Rattle.fs_script.specs.declared.fault.ScriptFault.TheVariants as faults
 use Rattle.fs_script.specs.declared.read.line_fault.LineFault.{LineFault}
 use Rattle.fs_script.specs.Job.{Job}
 use Rattle.fs_script.specs.Grammar.{IsLine, IsJob, SpellLines, SpellJob, IsScript}
-use Rattle.fs_script.specs.Reading.Pieces.{lines_of}
+use Rattle.fs_script.specs.Reading.Tokens.{lines_of}
 use Rattle.fs_script.specs.Reading.Headers.{header_of}
 use Rattle.fs_script.specs.Reading.Lines.{line_of}
 use Rattle.fs_script.specs.Reading.Scripts.{numbered, lines_from, lines_after_header, job_of_lines, job_of}

@@ -13,7 +13,7 @@ use Rattle.std.proofs.lemmas.List.Folds.{list_all-append}
 use Rattle.std.proofs.lemmas.List.Splits.{slice_split_at, slice_split_none, join_with_byte-slice_split}
 use Rattle.fs_types.specs.PathText.{is_path, is_component, is_name_character, between_slashes, mount_point}
 use Rattle.fs_script.specs.TextBytes.{is_text_byte}
-use Rattle.fs_script.specs.Reading.Pieces.{pieces, one_piece, two_pieces, three_pieces}
+use Rattle.fs_script.specs.Reading.Tokens.{tokens, one_token, two_tokens, three_tokens}
 use Rattle.fs_script.proofs.Number.{own, all_ascii_digits_is}
 
 -- it isn't the byte that parts words
@@ -104,32 +104,32 @@ none_parts c w h =
     (Decides-by_and (is_word_byte c) (λ b. (b == c) ≡ false) (list_all (is_word_byte c))
     (λ b. not_decides (b == c)) refl (λ _ _. refl) w).0 h
 
--- a text is its pieces, with a byte between each two
-pub pieces_joined : (c : ℕ) (text : List ℕ) → join_with_byte c (pieces c text) ≡ text
-pieces_joined c text = join_with_byte-slice_split c text
+-- a text is its tokens, with a byte between each two
+pub tokens_joined : (c : ℕ) (text : List ℕ) → join_with_byte c (tokens c text) ≡ text
+tokens_joined c text = join_with_byte-slice_split c text
 
--- words, joined, are the pieces again
-pub pieces_again : (c : ℕ) (w : List ℕ) (ws : List (List ℕ)) → IsWord c w → AllByRecursion (IsWord c) ws
-    → pieces c (join_with_byte c (w ∷ ws)) ≡ w ∷ ws
-pieces_again c w [] a b = slice_split_none (λ b. b == c) w (none_parts c w a)
-pieces_again c w (v ∷ vs) a b =
+-- words, joined, are the tokens again
+pub tokens_again : (c : ℕ) (w : List ℕ) (ws : List (List ℕ)) → IsWord c w → AllByRecursion (IsWord c) ws
+    → tokens c (join_with_byte c (w ∷ ws)) ≡ w ∷ ws
+tokens_again c w [] a b = slice_split_none (λ b. b == c) w (none_parts c w a)
+tokens_again c w (v ∷ vs) a b =
     slice_split_at (λ b. b == c) w c (join_with_byte c (v ∷ vs)) (none_parts c w a) (eq-eqb c c refl)
-    ∙ ap (λ l. w ∷ l) (pieces_again c v vs b.0 b.1)
+    ∙ ap (λ l. w ∷ l) (tokens_again c v vs b.0 b.1)
 
--- ---- so many pieces
+-- ---- so many tokens
 
-pub one_is : (ws : List (List ℕ)) (x : List ℕ) → one_piece ws ≡ Some x → ws ≡ x ∷ []
+pub one_is : (ws : List (List ℕ)) (x : List ℕ) → one_token ws ≡ Some x → ws ≡ x ∷ []
 one_is [] x e = absurd cc
 one_is (a ∷ []) x e = cc
 one_is (a ∷ b ∷ ws) x e = absurd cc
 
-pub two_are : (ws : List (List ℕ)) (x : List ℕ × List ℕ) → two_pieces ws ≡ Some x → ws ≡ x.0 ∷ x.1 ∷ []
+pub two_are : (ws : List (List ℕ)) (x : List ℕ × List ℕ) → two_tokens ws ≡ Some x → ws ≡ x.0 ∷ x.1 ∷ []
 two_are [] x e = absurd cc
 two_are (a ∷ []) x e = absurd cc
 two_are (a ∷ b ∷ []) x e = cc
 two_are (a ∷ b ∷ c ∷ ws) x e = absurd cc
 
-pub three_are : (ws : List (List ℕ)) (x : List ℕ × List ℕ × List ℕ) → three_pieces ws ≡ Some x → ws ≡ x.0 ∷ x.1 ∷ x.2 ∷ []
+pub three_are : (ws : List (List ℕ)) (x : List ℕ × List ℕ × List ℕ) → three_tokens ws ≡ Some x → ws ≡ x.0 ∷ x.1 ∷ x.2 ∷ []
 three_are [] x e = absurd cc
 three_are (a ∷ []) x e = absurd cc
 three_are (a ∷ b ∷ []) x e = absurd cc

@@ -7,7 +7,7 @@ use Rattle.fs_script.specs.declared.shape.Shape.{Shape}
 use Rattle.fs_script.specs.declared.fault.ScriptFault.{ScriptFault}
 use Rattle.fs_script.specs.declared.fault.ScriptFault.TheVariants as faults
 use Rattle.fs_script.specs.Reading.Steps.{◌>>=◌}
-use Rattle.fs_script.specs.Reading.Pieces.{words_of}
+use Rattle.fs_script.specs.Reading.Tokens.{words_of}
 use Rattle.fs_script.specs.Reading.Numbers.{number_of}
 
 -- the number behind a name such as `servers=`

@@ -15,7 +15,7 @@ use Rattle.fs_script.specs.declared.read.op_kind.OpKind.{OpKind}
 use Rattle.fs_script.specs.declared.read.op_kind.OpKind.TheVariants as kinds
 use Rattle.fs_script.specs.Grammar.{is_note}
 use Rattle.fs_script.specs.Reading.Steps.{◌>>=◌}
-use Rattle.fs_script.specs.Reading.Pieces.{words_of, one_piece, three_pieces}
+use Rattle.fs_script.specs.Reading.Tokens.{words_of, one_token, three_tokens}
 use Rattle.fs_script.specs.Reading.Words.{or_bad, rank_of, path_of, place_of, span_of, data_of}
 
 -- the operation of this name
@@ -32,7 +32,7 @@ kind_of word =
 -- the path of an operation that has no other word
 abbrev pub path_alone : List (List ℕ) → Result (List ℕ) LineFault
 path_alone words = do
-  word ← or_bad reasons.Words (one_piece words)
+  word ← or_bad reasons.Words (one_token words)
   path_of word
 
 -- an operation of this kind and its path, from the words after its name
@@ -44,7 +44,7 @@ op_of_kind kinds.Open words = do
   path ← path_alone words
   Ok (path, ops.Open)
 op_of_kind kinds.Write words = do
-  three ← or_bad reasons.Words (three_pieces words)
+  three ← or_bad reasons.Words (three_tokens words)
   path ← path_of three.0
   off ← place_of three.1
   text ← data_of three.2
@@ -53,7 +53,7 @@ op_of_kind kinds.Sync words = do
   path ← path_alone words
   Ok (path, ops.Sync)
 op_of_kind kinds.Read words = do
-  three ← or_bad reasons.Words (three_pieces words)
+  three ← or_bad reasons.Words (three_tokens words)
   path ← path_of three.0
   off ← place_of three.1
   len ← span_of three.2

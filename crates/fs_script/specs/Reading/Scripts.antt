@@ -9,7 +9,7 @@ use Rattle.fs_script.specs.declared.read.line_fault.LineFault.{LineFault}
 use Rattle.fs_script.specs.declared.read.line_fault.LineFault.TheVariants as line_faults
 use Rattle.fs_script.specs.Job.{Job}
 use Rattle.fs_script.specs.Reading.Steps.{◌>>=◌}
-use Rattle.fs_script.specs.Reading.Pieces.{lines_of}
+use Rattle.fs_script.specs.Reading.Tokens.{lines_of}
 use Rattle.fs_script.specs.Reading.Headers.{header_of}
 use Rattle.fs_script.specs.Reading.Lines.{line_of}
 

@@ -12,7 +12,7 @@ use Rattle.fs_script.specs.declared.fault.Reason.TheVariants as reasons
 use Rattle.fs_script.specs.declared.read.line_fault.LineFault.{LineFault}
 use Rattle.fs_script.specs.declared.read.line_fault.LineFault.TheVariants.{Bad, OverLimit}
 use Rattle.fs_script.specs.Reading.Steps.{◌>>=◌}
-use Rattle.fs_script.specs.Reading.Pieces.{pieces, two_pieces}
+use Rattle.fs_script.specs.Reading.Tokens.{tokens, two_tokens}
 use Rattle.fs_script.specs.Reading.Numbers.{number_of}
 
 -- the value, or a line that is bad for this reason
@@ -49,7 +49,7 @@ text_of bytes = if list_all is_text_byte bytes then within_limit (length bytes) 
 -- a payload that is computed, from its seed and its length
 abbrev pub pattern_of : List (List ℕ) → Result Data LineFault
 pattern_of words = do
-  two ← or_bad reasons.Data (two_pieces words)
+  two ← or_bad reasons.Data (two_tokens words)
   seed ← or_bad reasons.Data (number_of two.0)
   len ← or_bad reasons.Data (number_of two.1)
   within_limit len (Pattern seed len)
@@ -58,5 +58,5 @@ pattern_of words = do
 abbrev pub data_of : List ℕ → Result Data LineFault
 data_of word =
     if starts_with nat_eq word (codes "t:") then text_of (drop 2 word)
-    else if starts_with nat_eq word (codes "p:") then pattern_of (pieces 58 (drop 2 word))
+    else if starts_with nat_eq word (codes "p:") then pattern_of (tokens 58 (drop 2 word))
     else Err (Bad reasons.Data)

@@ -1,6 +1,7 @@
 //! A job is legal so far at each step, and its report is legal at the end.
 
-ghost use Rattle.fs_script.specs.Laws.{NothingIsLegal, AnswersKeepJobsLegal, CommitsKeepJobsLegal, FinishedJobsAreLegal};
+ghost use Rattle.fs_script.specs.Laws.{NothingIsLegal, FinishedJobsAreLegal};
+ghost use Rattle.fs_script.specs.Laws.{AnswersKeepJobsLegal, CommitsKeepJobsLegal};
 
 /// Before any answer, with empty journals.
 pub fn nothing_is_legal()

@@ -25,7 +25,7 @@ pub fn reading_finds_scripts()
     ensures all { (bytes : List ℕ) (s : Job) → IsScript bytes s → job_of bytes ≡ Ok s }
 {}
 
-/// No bytes are read as want of memory. So a reader that answers it says nothing of the bytes.
+/// No bytes are read as want of memory: each text is read as a job or as one of the other faults.
 pub fn reading_wants_no_memory()
     ensures { (bytes : List ℕ) → job_of bytes ≢ Err Want }
 {}

@@ -1,9 +1,11 @@
 //! The text of a legal report says what the report is.
 
-ghost use Rattle.fs_script.specs.Laws.{LegalReportsArePrintable, OneLegalReport, OnePrintableReport, PrintableTextIsWhole, TextEnds, TextIsWhole};
+ghost use Rattle.fs_script.specs.Laws.{LegalReportsArePrintable, OneLegalReport};
+ghost use Rattle.fs_script.specs.Laws.{OnePrintableReport, PrintableTextIsWhole};
+ghost use Rattle.fs_script.specs.Laws.{TextEnds, TextIsWhole};
 
-/// Two reports with one text are one report, and no text goes on after another, of whatever jobs the
-/// reports are: that each is printable is all that this needs.
+/// Two reports with one text are one report, and no text goes on after another, of whatever jobs
+/// the reports are: that each is printable is all that this needs.
 #[tactic(auto, using(crate::proofs::TextRead::same_report, crate::proofs::TextRead::nothing_more))]
 pub fn one_printable_report()
     ensures one { OnePrintableReport }

@@ -1,8 +1,9 @@
 //! The header of a script.
 
-ghost use Rattle.std.specs.Prelude.{◌≡◌, ◌≤◌};
-ghost use Rattle.fs_script.specs.Reading.Headers.{field, are_few, is_chunk, is_shape, within_limits, shape_of, shape_of_words, header_of};
-ghost use Rattle.fs_script.specs.declared.limits.TheConstants.{MOST_CHUNK, MEMORY_SLOTS};
+ghost use Rattle.std.specs.Prelude.{◌≡◌};
+ghost use Rattle.fs_script.specs.Reading.Headers.{field, are_few, is_chunk, is_shape};
+ghost use Rattle.fs_script.specs.Reading.Headers.{within_limits, shape_of};
+ghost use Rattle.fs_script.specs.Reading.Headers.{shape_of_words, header_of};
 
 use crate::fault::ScriptFault;
 use crate::limits::{
@@ -10,7 +11,7 @@ use crate::limits::{
     SPILL_BYTES, SPILL_SLOTS,
 };
 use crate::read::number::read_number;
-use crate::read::pieces::Pieces;
+use crate::read::tokens::Tokens;
 use crate::shape::Shape;
 use fs_types::LineNo;
 
@@ -27,14 +28,15 @@ fn field(name: &[u8], word: &[u8]) -> Result<u64, ScriptFault>
 /// Whether so many slots for each client are, over all clients, no more slots and no more bytes
 /// than these.
 fn are_few(clients: u64, chunk: u64, slots: u64, most_slots: u64, most_bytes: u64) -> bool
-    requires chunk { chunk ≤ MOST_CHUNK }
-    requires slots { most_slots ≤ MEMORY_SLOTS }
     ensures { result ≡ are_few clients chunk slots most_slots most_bytes }
 {
-    match clients.checked_mul(slots) {
-        Some(all) => all <= most_slots && all * chunk <= most_bytes,
-        None => false,
-    }
+    let Some(all) = clients.checked_mul(slots) else {
+        return false;
+    };
+    let Some(bytes) = all.checked_mul(chunk) else {
+        return false;
+    };
+    all <= most_slots && bytes <= most_bytes
 }
 
 /// Whether a job may have slots of this size.
@@ -98,7 +100,7 @@ fn shape(
 }
 
 /// The shape that the words say.
-fn shape_of_words(mut words: Pieces<'_>) -> Result<Shape, ScriptFault>
+fn shape_of_words(mut words: Tokens<'_>) -> Result<Shape, ScriptFault>
     ensures { result ≡ shape_of_words words.entry }
 {
     let servers = words.next().ok_or(ScriptFault::BadHeader)?;
@@ -112,7 +114,7 @@ pub fn header(line: &[u8]) -> Result<Shape, ScriptFault>
     ensures { result ≡ header_of line.now }
 {
     match line.strip_prefix(b"unifyfs 1 ") {
-        Some(words) => shape_of_words(Pieces::new(b' ', words)),
+        Some(words) => shape_of_words(Tokens::new(b' ', words)),
         None => Err(ScriptFault::BadHeader),
     }
 }

@@ -4,21 +4,22 @@ ghost use Rattle.std.specs.Prelude.{◌≡◌};
 ghost use Rattle.fs_script.specs.declared.read.line_fault.LineFault.TheVariants.{Want};
 ghost use Rattle.fs_script.specs.declared.read.op_kind.OpKind.TheVariants as kinds;
 ghost use Rattle.fs_script.specs.Grammar.{is_note};
-ghost use Rattle.fs_script.specs.Reading.Lines.{path_alone, op_of_kind, op_of_words, op_line_of, line_of};
+ghost use Rattle.fs_script.specs.Reading.Lines.{path_alone, op_of_kind, op_of_words};
+ghost use Rattle.fs_script.specs.Reading.Lines.{op_line_of, line_of};
 ghost use Rattle.fs_script.specs.Returned.{Gives};
 
 use crate::fault::Reason;
 use crate::line::{Line, Op, OpLine};
 use crate::read::line_fault::LineFault;
 use crate::read::op_kind::OpKind;
-use crate::read::pieces::Pieces;
+use crate::read::tokens::Tokens;
 use crate::read::word::{data, path, place, rank, span};
 use crate::shape::Shape;
 use fs_types::Path;
 use std::alloc::Global;
 
 /// The path of an operation that has no other word.
-fn path_alone(alloc: Global, words: Pieces<'_>) -> Result<Path, LineFault>
+fn path_alone(alloc: Global, words: Tokens<'_>) -> Result<Path, LineFault>
     ensures { Gives Want (λ p. p) result (path_alone words.entry) }
 {
     let word = words.one().ok_or(LineFault::Bad(Reason::Words))?;
@@ -26,7 +27,7 @@ fn path_alone(alloc: Global, words: Pieces<'_>) -> Result<Path, LineFault>
 }
 
 /// A write and its path, from the words after its name.
-fn write(alloc: Global, words: Pieces<'_>) -> Result<(Path, Op), LineFault>
+fn write(alloc: Global, words: Tokens<'_>) -> Result<(Path, Op), LineFault>
     ensures { Gives Want (λ x. x) result (op_of_kind kinds.Write words.entry) }
 {
     let (name, off, text) = words.three().ok_or(LineFault::Bad(Reason::Words))?;
@@ -37,7 +38,7 @@ fn write(alloc: Global, words: Pieces<'_>) -> Result<(Path, Op), LineFault>
 }
 
 /// A read and its path, from the words after its name.
-fn read(alloc: Global, words: Pieces<'_>) -> Result<(Path, Op), LineFault>
+fn read(alloc: Global, words: Tokens<'_>) -> Result<(Path, Op), LineFault>
     ensures { Gives Want (λ x. x) result (op_of_kind kinds.Read words.entry) }
 {
     let (name, off, len) = words.three().ok_or(LineFault::Bad(Reason::Words))?;
@@ -48,7 +49,7 @@ fn read(alloc: Global, words: Pieces<'_>) -> Result<(Path, Op), LineFault>
 }
 
 /// An operation of this kind and its path, from the words after its name.
-fn op_of_kind(alloc: Global, kind: OpKind, words: Pieces<'_>) -> Result<(Path, Op), LineFault>
+fn op_of_kind(alloc: Global, kind: OpKind, words: Tokens<'_>) -> Result<(Path, Op), LineFault>
     ensures { Gives Want (λ x. x) result (op_of_kind kind words.entry) }
 {
     match kind {
@@ -62,7 +63,7 @@ fn op_of_kind(alloc: Global, kind: OpKind, words: Pieces<'_>) -> Result<(Path, O
 }
 
 /// An operation and its path, from the words after the client.
-fn op(alloc: Global, mut words: Pieces<'_>) -> Result<(Path, Op), LineFault>
+fn op(alloc: Global, mut words: Tokens<'_>) -> Result<(Path, Op), LineFault>
     ensures { Gives Want (λ x. x) result (op_of_words words.entry) }
 {
     let name = words.next().ok_or(LineFault::Bad(Reason::Op))?;
@@ -71,7 +72,7 @@ fn op(alloc: Global, mut words: Pieces<'_>) -> Result<(Path, Op), LineFault>
 }
 
 /// An operation of a client, from all words of its line.
-fn op_line(alloc: Global, shape: &Shape, mut words: Pieces<'_>) -> Result<Line, LineFault>
+fn op_line(alloc: Global, shape: &Shape, mut words: Tokens<'_>) -> Result<Line, LineFault>
     ensures { Gives Want (λ l. l) result (op_line_of shape.now words.entry) }
 {
     let first = words.next().ok_or(LineFault::Bad(Reason::Rank))?;
@@ -95,6 +96,6 @@ pub fn line(alloc: Global, shape: &Shape, text: &[u8]) -> Result<Line, LineFault
     } else if text == b"barrier".as_slice() {
         Ok(Line::Barrier)
     } else {
-        op_line(alloc, shape, Pieces::new(b' ', text))
+        op_line(alloc, shape, Tokens::new(b' ', text))
     }
 }

@@ -1,21 +1,16 @@
 //! The lines of a text: a line feed ends each, and the last may lack it.
 
-ghost use Rattle.std.specs.Prelude.{◌≡◌, ◌==◌, ◌<◌, [], ◌∷◌, length, MatchOption};
-ghost use Rattle.std.specs.List.{position};
-ghost use Rattle.fs_script.specs.Reading.Pieces.{lines_of};
+ghost use Rattle.std.specs.Prelude.{◌≡◌, [], length, MatchOption};
+ghost use Rattle.fs_script.specs.Reading.Tokens.{BeginsWithLine, lines_of};
 
-fn line_feed(text: &[u8]) -> Option<usize>
-    ensures { result ≡ position (λ b. b == 10) text.now }
-{
-    text.iter().position(|b| *b == b'\n')
-}
+use crate::read::tokens::position_of;
 
 /// The first line of the text and what follows it, or `None` where the text is empty.
 pub fn next_line(text: &[u8]) -> Option<(&[u8], &[u8])>
     ensures { MatchOption result (lines_of text.now ≡ [])
-        (λ x. (lines_of text.now ≡ x.0.now ∷ lines_of x.1.now) × (length x.1.now < length text.now)) }
+        (λ x. BeginsWithLine text.now x.0.now x.1.now) }
 {
-    match line_feed(text) {
+    match position_of(b'\n', text) {
         Some(end) => Some((&text[..end], &text[end + 1..])),
         None if text.is_empty() => None,
         None => Some((text, &[])),

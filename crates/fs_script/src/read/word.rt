@@ -2,7 +2,8 @@
 
 ghost use Rattle.std.specs.Prelude.{◌≡◌};
 ghost use Rattle.fs_script.specs.declared.read.line_fault.LineFault.TheVariants.{Want};
-ghost use Rattle.fs_script.specs.Reading.Words.{rank_of, path_of, place_of, span_of, text_of, pattern_of, data_of};
+ghost use Rattle.fs_script.specs.Reading.Words.{rank_of, path_of, place_of, span_of};
+ghost use Rattle.fs_script.specs.Reading.Words.{text_of, pattern_of, data_of};
 ghost use Rattle.fs_script.specs.Returned.{Gives};
 
 use crate::fault::Reason;
@@ -10,7 +11,7 @@ use crate::limits::TRANSFER_LIMIT;
 use crate::line::Data;
 use crate::read::line_fault::LineFault;
 use crate::read::number::read_number;
-use crate::read::pieces::Pieces;
+use crate::read::tokens::Tokens;
 use crate::shape::Shape;
 use crate::text_bytes::TextBytes;
 use fs_types::{Path, PathFault, Rank};
@@ -69,7 +70,7 @@ fn text(alloc: Global, bytes: &[u8]) -> Result<Data, LineFault>
 }
 
 /// A payload that is computed, from its seed and its length.
-fn pattern(words: Pieces<'_>) -> Result<Data, LineFault>
+fn pattern(words: Tokens<'_>) -> Result<Data, LineFault>
     ensures { result ≡ pattern_of words.entry }
 {
     let (seed, len) = words.two().ok_or(LineFault::Bad(Reason::Data))?;
@@ -89,7 +90,7 @@ pub fn data(alloc: Global, word: &[u8]) -> Result<Data, LineFault>
     if let Some(bytes) = word.strip_prefix(b"t:") {
         text(alloc, bytes)
     } else if let Some(numbers) = word.strip_prefix(b"p:") {
-        pattern(Pieces::new(b':', numbers))
+        pattern(Tokens::new(b':', numbers))
     } else {
         Err(LineFault::Bad(Reason::Data))
     }

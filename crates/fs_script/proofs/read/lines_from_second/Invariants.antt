@@ -1,5 +1,5 @@
 use Rattle.std.proofs.Common.{◌≡◌, ◌+◌, length}
-use Rattle.fs_script.specs.Reading.Pieces.{lines_of}
+use Rattle.fs_script.specs.Reading.Tokens.{lines_of}
 use Rattle.fs_script.specs.Reading.Scripts.{lines_from}
 use Rattle.fs_script.proofs.Lines.{with_front}
 use Rattle.fs_script.proofs.read.lines_from_second.Given as goal

@@ -1,5 +1,5 @@
 use Rattle.std.proofs.Common.{sym}
-use Rattle.fs_script.specs.Reading.Pieces.{lines_of}
+use Rattle.fs_script.specs.Reading.Tokens.{lines_of}
 use Rattle.fs_script.proofs.Reading.Scripts.{read_fits}
 use Rattle.fs_script.proofs.read.script.Goals as goal
 

@@ -1,6 +1,6 @@
 use Rattle.std.proofs.Common.{◌≡◌, drop}
 use Rattle.fs_script.specs.Report.{journal_of}
-use Rattle.fs_plain.specs.Journals.{entries_of}
+use Rattle.fs_plain.specs.JournalEntries.{entries_of}
 use Rattle.fs_plain.proofs.journals.Journals.of.Given as goal
 
 -- the journal is the first one of the path among those that are left

@@ -1,5 +1,5 @@
 use Rattle.std.proofs.Common.{◌≡◌, ◌+◌, ◌≤◌, length}
-use Rattle.fs_script.specs.Reading.Pieces.{lines_of}
+use Rattle.fs_script.specs.Reading.Tokens.{lines_of}
 use Rattle.fs_script.proofs.read.lines.line_count.Given as goal
 
 abbrev pub invariant-loop-others : goal.invariant-loop-others

@@ -153,3 +153,6 @@ pub path_from_mounted : (bytes : List ℕ) → IsMountedText bytes → length by
 path_from_mounted bytes m s =
     subst (λ text. IsPath text) (sym m.3) (mounted_path m.0 m.1 (list_all-from_AllPass is_component m.0 m.2)
     (subst (λ text. length text ≤ 255) m.3 s))
+
+-- what a function's attribute cites
+pub ruleset mounted_texts = (mounted_from_path, path_from_mounted)

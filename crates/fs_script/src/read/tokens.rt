@@ -1,47 +1,48 @@
-//! The pieces of a text, such as the words of a line, one by one.
+//! The tokens of a text, such as the words of a line, one by one.
 
 ghost use Rattle.std.specs.Prelude.{◌≡◌, ◌==◌, option_copied, option_map};
 ghost use Rattle.std.specs.List.{position};
-ghost use Rattle.fs_script.specs.Reading.Pieces.{pieces, one_piece, two_pieces, three_pieces};
+ghost use Rattle.fs_script.specs.Reading.Tokens.{tokens, one_token, two_tokens, three_tokens};
 
 use std::marker::Model;
 
-/// The pieces of a text between the places where a byte stands. A clause sees the list of those
+/// The tokens of a text between the places where a byte stands. A clause sees the list of those
 /// that are still to come.
 #[derive(Debug, Drop)]
-pub struct Pieces<'a> {
+pub struct Tokens<'a> {
     separator: u8,
     rest: Option<&'a [u8]>,
 }
 
-impl<'a> Model for Pieces<'a> {
+impl<'a> Model for Tokens<'a> {
     ghost use Rattle.std.specs.Prelude.{ℕ, List, option_copied};
-    ghost use Rattle.fs_script.specs.Reading.Pieces.{pieces_left};
+    ghost use Rattle.fs_script.specs.Reading.Tokens.{tokens_left};
 
     ghost Value = { List (List ℕ) };
 
-    ghost view = { λ p. pieces_left p.separator (option_copied p.rest) };
+    ghost view = { λ p. tokens_left p.separator (option_copied p.rest) };
 }
 
-fn place_of(separator: u8, text: &[u8]) -> Option<usize>
-    ensures { result ≡ position (λ b. b == separator) text.now }
+/// Where the byte first stands in the text.
+pub fn position_of(byte: u8, text: &[u8]) -> Option<usize>
+    ensures { result ≡ position (λ b. b == byte) text.now }
 {
-    text.iter().position(|b| *b == separator)
+    text.iter().position(|b| *b == byte)
 }
 
-impl<'a> Pieces<'a> {
-    pub fn new(separator: u8, text: &'a [u8]) -> Pieces<'a>
-        ensures { result ≡ pieces separator text.now }
+impl<'a> Tokens<'a> {
+    pub fn new(separator: u8, text: &'a [u8]) -> Tokens<'a>
+        ensures { result ≡ tokens separator text.now }
     {
-        Pieces {
+        Tokens {
             separator,
             rest: Some(text),
         }
     }
 
-    /// The piece, where there is one and no other.
+    /// The token, where there is one and no other.
     pub fn one(mut self) -> Option<&'a [u8]>
-        ensures { option_copied result ≡ one_piece self.entry }
+        ensures { option_copied result ≡ one_token self.entry }
     {
         let first = self.next()?;
         if self.next().is_some() {
@@ -50,18 +51,18 @@ impl<'a> Pieces<'a> {
         Some(first)
     }
 
-    /// The pieces, where there are two.
+    /// The tokens, where there are two.
     pub fn two(mut self) -> Option<(&'a [u8], &'a [u8])>
-        ensures { option_map (λ x. (x.0.now, x.1.now)) result ≡ two_pieces self.entry }
+        ensures { option_map (λ x. (x.0.now, x.1.now)) result ≡ two_tokens self.entry }
     {
         let first = self.next()?;
         let second = self.one()?;
         Some((first, second))
     }
 
-    /// The pieces, where there are three.
+    /// The tokens, where there are three.
     pub fn three(mut self) -> Option<(&'a [u8], &'a [u8], &'a [u8])>
-        ensures { option_map (λ x. (x.0.now, x.1.now, x.2.now)) result ≡ three_pieces self.entry }
+        ensures { option_map (λ x. (x.0.now, x.1.now, x.2.now)) result ≡ three_tokens self.entry }
     {
         let first = self.next()?;
         let (second, third) = self.two()?;
@@ -69,7 +70,7 @@ impl<'a> Pieces<'a> {
     }
 }
 
-impl<'a> Iterator for Pieces<'a> {
+impl<'a> Iterator for Tokens<'a> {
     ghost use Rattle.std.specs.Iterator.{item_count, YieldsFirstRef};
 
     type Item = &'a [u8];
@@ -80,7 +81,7 @@ impl<'a> Iterator for Pieces<'a> {
 
     fn next(&mut self) -> Option<&'a [u8]> {
         let text = self.rest?;
-        match place_of(self.separator, text) {
+        match position_of(self.separator, text) {
             Some(end) => {
                 self.rest = Some(&text[end + 1..]);
                 Some(&text[..end])

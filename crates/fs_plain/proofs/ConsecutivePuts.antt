@@ -1,4 +1,4 @@
--- Pieces of a list that are put one after the other.
+-- Parts of a list that are put one after the other.
 use Rattle.std.proofs.Common.{◌≡◌, ℕ, zero, suc, ◌+◌, ◌-◌, ◌<◌, ◌≤◌, List, length, take, drop, add-zero, refl, ◌∙◌, inl, inr, arith}
 use Rattle.std.proofs.lemmas.Bool.{cases_lt}
 use Rattle.std.proofs.lemmas.Bool.Decides.{nat_tests}
@@ -36,4 +36,4 @@ put-more xs p off (suc a) b less within =
     ])
 
 -- what a function's attribute cites
-pub ruleset piece_laws = (put-more)
+pub ruleset consecutive_puts = (put-more)
