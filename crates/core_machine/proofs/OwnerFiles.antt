@@ -1,7 +1,7 @@
 -- Files under their keys: what a server finds once it keeps something else for one of them.
 use Rattle.fs_types.proofs.Common.{zero, suc, ◌<◌, ◌≤◌, none-some, ◌++◌, [], length, map, take, drop, slice_get, None, arith, same_Some}
-use Rattle.fs_types.proofs.Common.{◌≡◌, ℕ, Bool, true, false, ◌&&◌, if◌then◌else◌, List, ◌∷◌, Option, Some, nat_eq, bytes_eq, refl, sym, ap}
-use Rattle.fs_types.proofs.Common.{subst, ◌∙◌, true≢false, Decides-eqb, bytes_eq-Decides}
+use Rattle.fs_types.proofs.Common.{◌≡◌, ℕ, Bool, true, false, ◌&&◌, if◌then◌else◌, List, ◌∷◌, Some, nat_eq, bytes_eq, refl, sym, ap}
+use Rattle.fs_types.proofs.Common.{◌∙◌, true≢false, Decides-eqb, bytes_eq-Decides}
 use Rattle.std.specs.Bool.{Decides}
 use Rattle.std.specs.Map.{values_of, IsKeyTest, AreApart, KeepsOthers}
 use Rattle.std.proofs.lemmas.Bool.Decides.{Decides-and}

@@ -1,6 +1,6 @@
 -- What the servers keep for each path, once one of them keeps something else for one path, or all were told.
-use Rattle.fs_types.proofs.Common.{◌≡◌, ℕ, suc, ◌+◌, ◌<◌, ◌≤◌, ◌⊎◌, Bool, true, false, ◌&&◌, cond, if◌then◌else◌, List, length, set, slice_get, get_or}
-use Rattle.fs_types.proofs.Common.{Option, Some, None, nat_eq, nat_lt, bytes_eq, refl, sym, ap, subst, ◌∙◌, inl, inr, arith, common_steps}
+use Rattle.fs_types.proofs.Common.{◌≡◌, ℕ, ◌+◌, ◌<◌, ◌≤◌, ◌⊎◌, Bool, true, false, ◌&&◌, cond, if◌then◌else◌, List, length, set, slice_get}
+use Rattle.fs_types.proofs.Common.{Option, Some, nat_eq, nat_lt, bytes_eq, refl, sym, ap, subst, ◌∙◌, inl, inr, arith}
 use Rattle.fs_types.proofs.Common.{Contains, take, [], ◌∷◌, ◌++◌, true≢false, get_or_from_slice_get, take_more}
 use Rattle.fs_types.proofs.Common.{cases_eq, cases_lt, lt-ltb, le-ltb, bytes_eq-Decides, eq-eqb, length-set, slice_get_within, false_from_ne_true}
 use Rattle.std.proofs.lemmas.List.Elements.{Contains-push_cases}
@@ -10,7 +10,7 @@ use Rattle.core_machine.specs.declared.owner_files.OwnerFiles.{OwnerFiles}
 use Rattle.core_machine.specs.declared.path_state.OwnedPath.{OwnedPath}
 use Rattle.core_machine.specs.Kept.{IsFreshOwner, told}
 use Rattle.core_machine.specs.OwnerFiles.{file_in, file_at, owned_at, ChangesFile, ChangesPath, AddsPath, AreFresh}
-use Rattle.core_machine.proofs.Refines.Journals.{slice_get-set_same, slice_get-set_other}
+use Rattle.fs_script.proofs.CallerLemmas.{slice_get-set_same, slice_get-set_other}
 
 -- the server that owns a path, one of these
 abbrev pub home : List OwnerFiles → List ℕ → ℕ

@@ -4,7 +4,7 @@ use Rattle.core_machine.specs.declared.owner_files.OwnerFiles.{OwnerFiles}
 use Rattle.core_machine.specs.declared.path_state.ClientPath.{ClientPath}
 use Rattle.core_machine.specs.declared.path_state.OwnedPath.{OwnedPath}
 use Rattle.core_machine.specs.Kept.{PathState}
-use Rattle.core_machine.specs.OwnerFiles.{AreFiled, owned_at}
+use Rattle.core_machine.specs.OwnerFiles.{AreFiled}
 
 -- what is kept for one path, before what is kept for others
 abbrev pub with_state : Option OwnedPath → List ClientPath → List PathState → List PathState

@@ -75,7 +75,6 @@ impl<'s> Core<'s> {
     }
 
     /// The paths that the script names.
-    #[tactic(auto, using(crate::proofs::Refines::Journals::paths_beside))]
     pub fn paths(&self) -> &PathTable
         ensures { result.now ≡ map (λ j. j.0) self.now.journals }
     {

@@ -3,7 +3,6 @@
 
 ghost use Rattle.std.specs.Prelude.{◌≡◌, ℕ, ◌≤◌, List, length, IfOk, OnOk};
 ghost use Rattle.std.specs.Option.{option_map, option_copied};
-ghost use Rattle.placement.specs.Placement.{gfid};
 ghost use Rattle.core_machine.specs.Kept.{told};
 ghost use Rattle.core_machine.specs.OwnerFiles.{owned_at, AddsPath, AreFresh};
 
@@ -11,15 +10,8 @@ use crate::owner_files::OwnerFiles;
 use crate::path_state::OwnedPath;
 use crate::path_table::PathTable;
 use fs_types::{Path, Want};
-use md5::{Digest, Md5};
-use placement::{gfid_of, gfid_of_digest, owner_of};
+use placement::{gfid_of, gfid_of_bytes, owner_of};
 use std::alloc::Global;
-
-fn gfid_of_bytes(path: &[u8]) -> u64
-    ensures { result ≡ gfid path.now }
-{
-    gfid_of_digest(&Md5::digest(path))
-}
 
 // So many servers that own nothing.
 fn empty_servers(alloc: Global, servers: u32) -> Result<Vec<OwnerFiles>, Want>
@@ -33,12 +25,7 @@ fn empty_servers(alloc: Global, servers: u32) -> Result<Vec<OwnerFiles>, Want>
 }
 
 // Adds a path to the files of its owner.
-fn add_path(
-    alloc: Global,
-    owners: &mut [OwnerFiles],
-    servers: u32,
-    path: &[u8],
-) -> Result<(), Want>
+fn add_path(alloc: Global, owners: &mut [OwnerFiles], servers: u32, path: &[u8]) -> Result<(), Want>
     requires some { 1 ≤ servers }
     requires sized { length owners.old ≡ servers }
     ensures { OnOk result (AddsPath owners.old owners.new path.now) }
@@ -82,3 +69,6 @@ pub fn tell_all(owners: &mut [OwnerFiles])
         list.tell();
     }
 }
+
+#[cfg(test)]
+mod tests;

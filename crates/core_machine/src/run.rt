@@ -45,11 +45,7 @@ pub struct Run<'s> {
 }
 
 // For each of so many paths, what so many clients keep for it that did nothing.
-fn fresh_clients_of(
-    alloc: Global,
-    paths: usize,
-    clients: u32,
-) -> Result<Vec<Vec<ClientPath>>, Want>
+fn fresh_clients_of(alloc: Global, paths: usize, clients: u32) -> Result<Vec<Vec<ClientPath>>, Want>
     ensures { IfOk result (λ v. (length v.items ≡ paths) × All (AreFreshClients clients) v.items) }
 {
     let mut each = Vec::with_capacity(alloc, paths)?;
@@ -124,7 +120,8 @@ fn answer_at_owner(
     ensures follows { IfOk result (λ a.
         FollowsIn s.now n o.now.op r gfid o.now.path owner.old owner.new clients.old clients.new a) }
 {
-    let own = &mut clients[r.0 as usize];
+    let at = r.0 as usize;
+    let own = &mut clients[at];
     let path = o.path.as_bytes();
     match owner.files.get_mut(FileName { gfid, path }) {
         Some(file) => event::answer(alloc, s, n, o, file, own),
@@ -152,7 +149,16 @@ fn answer_on_path(
 {
     let gfid = gfid_of(&o.path);
     let owner = owner_of(gfid, s.shape().servers);
-    answer_at_owner(alloc, s, n, o, gfid, &mut owners[owner.0 as usize], clients, r)
+    answer_at_owner(
+        alloc,
+        s,
+        n,
+        o,
+        gfid,
+        &mut owners[owner.0 as usize],
+        clients,
+        r,
+    )
 }
 
 // Answers the next line of a client that goes. After want of memory what is kept for that line's

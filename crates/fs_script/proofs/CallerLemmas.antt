@@ -24,7 +24,8 @@ pub use Rattle.fs_script.proofs.AnsweredLines.{rises_past, lines-passing}
 -- plain lists, ranges and options
 pub use Rattle.fs_script.proofs.PlainLists.{some_of, none_from-is_some}
 pub use Rattle.fs_script.proofs.PlainLists.{AllByRecursion-from_get, AllByRecursion-weaker, AllByRecursion-push, slice_get-push_last}
-pub use Rattle.fs_script.proofs.PlainLists.{slice_get-set_same, slice_get-set_other, items-unwrap_or, Contains-one_more}
+pub use Rattle.fs_script.proofs.PlainLists.{slice_get-set_same, slice_get-set_other, slice_get-map_some, slice_get-some}
+pub use Rattle.fs_script.proofs.PlainLists.{AllByRecursion-from_contained}
 pub use Rattle.fs_script.proofs.PlainLists.{range-push, slice_get-range}
 pub use Rattle.fs_script.proofs.PlainLists.{passes, passing-rise, passing-place, passing-places}
 -- the script of five lines, for worked cases

@@ -6,12 +6,9 @@ use Rattle.fs_types.proofs.Common.{refl, sym, ap, ◌∙◌, subst, subst₂, ta
 use Rattle.fs_types.proofs.Common.{cond_both, cond-true, cases_eq, cases_order, none-some, same_Some, slice_get_within, slice_get-get_or}
 use Rattle.fs_types.proofs.Common.{get_or_from_slice_get, length-map, length_push, get_or-map, get_or_append_left, All-from_recursion}
 use Rattle.fs_types.proofs.Common.{recursion_from_All, All-take, All-push, All-filter, filter_passes, length-range_with_len}
-use Rattle.fs_types.proofs.Common.{get_or-range_with_len, AllPairs-filter, sum_by-take-le, set, Vec, unwrap_or, if◌then◌else◌, Contains}
-use Rattle.fs_types.proofs.Common.{Contains-append_left, Contains-push, false≢true}
-use Rattle.std.specs.Prelude.{◌↔◌}
-use Rattle.std.specs.Bool.{Decides}
-use Rattle.std.specs.Option.{option_map_or}
-use Rattle.std.proofs.lemmas.List.Elements.{Contains-push_cases}
+use Rattle.fs_types.proofs.Common.{get_or-range_with_len, AllPairs-filter, sum_by-take-le, set, Contains}
+use Rattle.std.specs.Option.{option_map}
+use Rattle.std.proofs.lemmas.Option.{slice_get-map}
 
 -- ---- options
 
@@ -81,6 +78,27 @@ pub slice_get-push_below : {X : Type 0} (xs : List X) (y : X) (k : ℕ) (x : X) 
 slice_get-push_below xs y k x below at =
     elim (slice_get-push_cases xs y k x at) [ inl old ↦ old | inr new ↦ absurd (omega (arith, new.0)) ]
 
+-- ---- an element at a place
+
+-- below the length there is one
+pub slice_get-some : {X : Type 0} (xs : List X) (i : ℕ) → i < length xs → (x : X) × (slice_get xs i ≡ Some x)
+slice_get-some [] i lt = absurd (omega arith)
+slice_get-some (x ∷ xs) zero lt = (x, refl)
+slice_get-some (x ∷ xs) (suc i) lt = slice_get-some xs i (omega arith)
+
+-- a function's value of it stands there among the values
+pub slice_get-map_some : {X Y : Type 0} (f : X → Y) (xs : List X) (i : ℕ) (x : X) → slice_get xs i ≡ Some x
+    → slice_get (map f xs) i ≡ Some (f x)
+slice_get-map_some f xs i x is = slice_get-map f xs i ∙ ap (option_map f) is
+
+-- what holds of each element that a list contains holds of all of its elements
+pub AllByRecursion-from_contained : {X : Type 0} {P : X → Type 0} (xs : List X) → ((x : X) → Contains xs x → P x) → AllByRecursion P xs
+AllByRecursion-from_contained [] each = tt
+AllByRecursion-from_contained (x ∷ xs) each = (
+  each x (0, omega arith, refl),
+  AllByRecursion-from_contained xs (λ y there. each y (suc there.0, (let lt = there.1 in omega arith), there.2)),
+)
+
 -- ---- one element set
 
 module _ {X : Type 0} where
@@ -97,26 +115,6 @@ module _ {X : Type 0} where
   slice_get-set_other (x ∷ xs) zero (suc j) y differ = refl
   slice_get-set_other (x ∷ xs) (suc i) zero y differ = refl
   slice_get-set_other (x ∷ xs) (suc i) (suc j) y differ = slice_get-set_other xs i j y (λ e. differ (ap suc e))
-
--- ---- a list that may be there, and an element that may be pushed
-
--- the elements of a vector that may be there, where an empty one stands for none
-pub items-unwrap_or : {X A : Type 0} (r : Option (Vec X A)) (none : Vec X A) → none.items ≡ []
-    → (unwrap_or r none).items ≡ option_map_or (λ v. v.items) r []
-items-unwrap_or None none empty = empty
-items-unwrap_or (Some v) none empty = refl
-
--- what stands in a list that has one element more, if P holds
-pub Contains-one_more : {X : Type 0} {P : Type 0} (b : Bool) → Decides b P → (xs : List X) (y x : X)
-    → Contains (if b then xs ++ y ∷ [] else xs) x ↔ (Contains xs x ⊎ (P × (y ≡ x)))
-Contains-one_more true holds xs y x = (
-  λ there. elim (Contains-push_cases xs y x there) [ inl was ↦ inl was | inr here ↦ inr (holds.0 refl, here) ],
-  λ there. elim there [
-    | inl was ↦ Contains-append_left xs (y ∷ []) x was
-    | inr here ↦ subst (Contains (xs ++ y ∷ [])) here.1 (Contains-push xs y)
-  ],
-)
-Contains-one_more false holds xs y x = grind (arith, false≢true)
 
 -- ---- how many pass a test
 

@@ -1,6 +1,6 @@
 -- Two clients round a barrier, worked out by hand: the phases and the fronts of their lines, what a line may print that knows
 -- of the phase before, and a journal in which a later phase's line stands too early.
-use Rattle.std.proofs.Common.{◌≡◌, ℕ, List, [], ◌∷◌, Some, None, false, true, refl, arith}
+use Rattle.std.proofs.Common.{◌≡◌, ℕ, List, [], ◌∷◌, Some, refl, arith}
 use Rattle.std.specs.Prelude.{codes}
 use Rattle.fs_types.specs.declared.answer.Answer.{Answer}
 use Rattle.fs_types.specs.declared.answer.Answer.TheVariants as answers
@@ -13,8 +13,7 @@ use Rattle.fs_script.specs.declared.line.Op.TheVariants as ops
 use Rattle.fs_script.specs.declared.line.Data.TheVariants.{Text}
 use Rattle.fs_script.specs.Job.{Job, phase}
 use Rattle.fs_script.specs.Pending.{Answering, pending}
-use Rattle.fs_script.specs.Effect.{state}
-use Rattle.fs_script.specs.Front.{front, seen, of_earlier_phases, is_open}
+use Rattle.fs_script.specs.Front.{front, seen}
 use Rattle.fs_script.specs.Fits.{Fits}
 use Rattle.fs_script.specs.Journal.{IsLegalJournal, committed}
 use Rattle.fs_script.proofs.FiveLines.{path_a, on_a}

@@ -1,31 +1,13 @@
 -- The journals that are kept, as one path's state is changed.
-use Rattle.fs_types.proofs.Common.{common_steps, firsts-zip, length-map, ◌≡◌, ℕ, zero, suc, ◌<◌, Bool, true, false, cond, List, [], ◌∷◌}
+use Rattle.fs_types.proofs.Common.{common_steps, firsts-zip, length-map, ◌≡◌, ℕ, zero, suc, Bool, true, false, cond, List, [], ◌∷◌}
 use Rattle.fs_types.proofs.Common.{◌++◌, length, set, map, Some, refl, sym, ap, subst, ◌∙◌, arith, zip, slice_get, AllByRecursion, bytes_eq}
-use Rattle.fs_types.proofs.Common.{nat_cmp, is_lt, slice_cmp, option_map, map-set, set-get_or, same_Some, slice_get-map}
+use Rattle.fs_types.proofs.Common.{nat_cmp, is_lt, slice_cmp, map-set, set-get_or, same_Some}
 use Rattle.fs_types.proofs.Common.{get_or_from_slice_get}
 use Rattle.fs_script.specs.Vocabulary.{AreRising}
+use Rattle.fs_script.proofs.CallerLemmas.{slice_get-map_some}
 use Rattle.core_machine.specs.Vocabulary.{PathState, with_entry, journals_of}
 use Rattle.core_machine.proofs.Paths.{not_among, same_bytes, other_bytes}
 use Rattle.core_machine.proofs.Refines.Owners.{grown}
-
--- ---- lists, one of whose places is set
-
-module _ {X : Type 0} where
-  pub slice_get-set_same : (xs : List X) (i : ℕ) (y : X) → i < length xs → slice_get (set xs i y) i ≡ Some y
-  slice_get-set_same [] i y lt = absurd (omega arith)
-  slice_get-set_same (x ∷ xs) zero y lt = refl
-  slice_get-set_same (x ∷ xs) (suc i) y lt = slice_get-set_same xs i y (omega arith)
-
-  pub slice_get-set_other : (xs : List X) (i j : ℕ) (y : X) → (j ≡ i → ⊥) → slice_get (set xs i y) j ≡ slice_get xs j
-  slice_get-set_other [] i j y differ = refl
-  slice_get-set_other (x ∷ xs) zero zero y differ = absurd (differ refl)
-  slice_get-set_other (x ∷ xs) zero (suc j) y differ = refl
-  slice_get-set_other (x ∷ xs) (suc i) zero y differ = refl
-  slice_get-set_other (x ∷ xs) (suc i) (suc j) y differ = slice_get-set_other xs i j y (λ e. differ (ap suc e))
-
-  pub slice_get-map_some : {Y : Type 0} (f : X → Y) (xs : List X) (i : ℕ) (x : X) → slice_get xs i ≡ Some x
-      → slice_get (map f xs) i ≡ Some (f x)
-  slice_get-map_some f xs i x is = slice_get-map f xs i ∙ ap (option_map f) is
 
 -- ---- journals beside their paths
 
@@ -66,4 +48,7 @@ journals_of-set paths states p n i x y false rising at is grows =
     (sym (get_or_from_slice_get (map journal_kept states) i (journal_kept x) (journal_kept x)
     (slice_get-map_some journal_kept states i x is))) ∙ set-get_or (map journal_kept states) i (journal_kept x))
 
-pub ruleset paths_beside = (firsts-zip, length-map)
+-- the paths are those beside the journals
+pub paths-beside : (paths : List (List ℕ)) (states : List PathState) → length states ≡ length paths
+    → map (λ j. j.0) (journals_of paths states) ≡ paths
+paths-beside paths states size = firsts-zip paths (map journal_kept states) (length-map states journal_kept ∙ size)

@@ -1,19 +1,15 @@
 -- What is read of a path in what the core keeps: its journal and its file at the moment.
-use Rattle.fs_types.proofs.Common.{common_steps, refl, ◌≡◌, ℕ, zero, suc, ◌<◌, List, [], ◌∷◌, length, map, get_or, Some, None, Vec, false, sym, ap}
+use Rattle.fs_types.proofs.Common.{common_steps, ◌≡◌, ℕ, List, [], length, map, Some, None, Vec, false, sym, ap}
 use Rattle.fs_types.proofs.Common.{◌∙◌, arith, slice_get, Contains, slice_get-get_or}
 use Rattle.fs_script.specs.Vocabulary.{Given, answer_at, Job, state, AreRising, journal_of}
 use Rattle.core_machine.specs.declared.owner_files.OwnerFiles.{OwnerFiles}
 use Rattle.core_machine.specs.OwnerFiles.{owned_at}
 use Rattle.core_machine.specs.States.{AreKept, states_of}
 use Rattle.core_machine.specs.Vocabulary.{ClientPath, OwnedPath, PathState, file_of, file_now, Places, journals_of, moment_of, Holds, Stands}
+use Rattle.fs_script.proofs.CallerLemmas.{AllByRecursion-from_contained, slice_get-map_some, slice_get-some}
 use Rattle.core_machine.proofs.Paths.{journal_of-zip, journal_of-absent}
-use Rattle.core_machine.proofs.Refines.Journals.{slice_get-map_some, journal_kept}
-use Rattle.core_machine.proofs.Refines.States.{AllKept-from_contained, states-at}
-
-pub some-at : {X : Type 0} (xs : List X) (i : ℕ) → i < length xs → (x : X) × (slice_get xs i ≡ Some x)
-some-at [] i lt = absurd (omega arith)
-some-at (x ∷ xs) zero lt = (x, refl)
-some-at (x ∷ xs) (suc i) lt = some-at xs i (omega arith)
+use Rattle.core_machine.proofs.Refines.Journals.{journal_kept}
+use Rattle.core_machine.proofs.Refines.States.{states-at}
 
 -- the place of a path of which its owner keeps x, and what is kept for the path there
 pub record IsThere (paths : List (List ℕ)) (states : List PathState) (p : List ℕ) (x : OwnedPath) : Type 0 where
@@ -27,12 +23,12 @@ pub there-kept : {A : Type 0} {servers : ℕ} {paths : List (List ℕ)} {owners 
     → IsThere paths (states_of (owned_at owners) paths kept) p x
 there-kept {A} {servers} {paths} {owners} {kept} p x all has is =
     let at = slice_get-get_or paths has.0 p has.1 ∙ ap Some has.2 in
-    let ks = some-at kept has.0 (let rows = all.rows in let lt = has.1 in omega arith) in
+    let ks = slice_get-some kept has.0 (let rows = all.rows in let lt = has.1 in omega arith) in
     record {
       place = has.0;
       clients = ks.0.items;
       at = at;
-      there = states-at (owned_at owners) paths kept has.0 p x ks.0 (AllKept-from_contained paths all.filed) at is ks.1;
+      there = states-at (owned_at owners) paths kept has.0 p x ks.0 (AllByRecursion-from_contained paths all.filed) at is ks.1;
     }
 
 -- the journal of a path that has a place

@@ -1,6 +1,6 @@
 -- What is kept path by path, as one path's part changes or all clients are told.
-use Rattle.fs_types.proofs.Common.{◌≡◌, ℕ, zero, suc, ◌<◌, ◌≤◌, Bool, true, false, if◌then◌else◌, List, [], ◌∷◌, length, map, set, slice_get}
-use Rattle.fs_types.proofs.Common.{Option, Some, None, IsSome, Vec, Contains, bytes_eq, refl, sym, ap, ◌∙◌, subst, arith, AllByRecursion}
+use Rattle.fs_types.proofs.Common.{◌≡◌, ℕ, zero, suc, Bool, true, false, if◌then◌else◌, List, [], ◌∷◌, length, map, set, slice_get}
+use Rattle.fs_types.proofs.Common.{Option, Some, None, IsSome, Vec, bytes_eq, refl, sym, ap, ◌∙◌, subst, arith, AllByRecursion}
 use Rattle.fs_types.proofs.Common.{is_lt, is_some, slice_cmp, nat_cmp, none-some, same_Some}
 use Rattle.std.specs.Option.{option_map}
 use Rattle.fs_script.specs.Vocabulary.{AreRising}
@@ -14,13 +14,6 @@ use Rattle.core_machine.proofs.Paths.{not_among, same_bytes, other_bytes}
 -- something is kept for each of the paths
 abbrev pub AllKept : (List ℕ → Option OwnedPath) → List (List ℕ) → Type 0
 AllKept at ps = AllByRecursion (λ p. IsSome (at p)) ps
-
-pub AllKept-from_contained : {P : List ℕ → Type 0} (ps : List (List ℕ)) → ((p : List ℕ) → Contains ps p → P p) → AllByRecursion P ps
-AllKept-from_contained [] each = tt
-AllKept-from_contained (p ∷ ps) each = (
-  each p (0, omega arith, refl),
-  AllKept-from_contained ps (λ q there. each q (suc there.0, (let lt = there.1 in omega arith), there.2)),
-)
 
 pub some-kept : (r : Option OwnedPath) → IsSome r → (x : OwnedPath) × (r ≡ Some x)
 some-kept (Some x) some = (x, refl)

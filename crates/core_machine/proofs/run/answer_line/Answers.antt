@@ -1,14 +1,13 @@
-use Rattle.fs_types.proofs.Common.{slice_get_read, ◌≡◌, ◌∙◌, ℕ, ◌<◌, false, List, length, Some, Vec, slice_get, set, is_some, length-set}
+use Rattle.fs_types.proofs.Common.{slice_get_read, ◌≡◌, ◌∙◌, false, List, length, Some, Vec, set, is_some, length-set}
 use Rattle.fs_types.proofs.Common.{refl, sym, ap, subst, arith, with_items, with_items_is, get_or, get_or_from_slice_get, Contains}
 use Rattle.fs_script.specs.Vocabulary.{Given, put_answer}
-use Rattle.core_machine.specs.Vocabulary.{ClientPath, OwnedPath, PathState, IsSoundFor, moment_of, after_line, Holds, step}
+use Rattle.core_machine.specs.Vocabulary.{ClientPath, PathState, IsSoundFor, moment_of, after_line, Holds}
 use Rattle.core_machine.specs.OwnerFiles.{owned_at}
 use Rattle.core_machine.specs.States.{states_of}
-use Rattle.fs_script.proofs.CallerLemmas.{op_at-within, program-op}
+use Rattle.fs_script.proofs.CallerLemmas.{AllByRecursion-from_contained, op_at-within, program-op, slice_get-some}
 use Rattle.core_machine.proofs.Refines.Goes.{goes-kept}
 use Rattle.core_machine.proofs.Refines.Moments.{step-is}
-use Rattle.core_machine.proofs.Refines.Reads.{some-at}
-use Rattle.core_machine.proofs.Refines.States.{AllKept-from_contained, AreKept-changed, some-kept, states-at, states-set}
+use Rattle.core_machine.proofs.Refines.States.{AreKept-changed, some-kept, states-at, states-set}
 use Rattle.core_machine.proofs.Refines.Steps.{Answered, Holds-after}
 use Rattle.core_machine.proofs.run.answer_line.Goals.{After-set}
 use Rattle.core_machine.proofs.run.answer_line.Goals as goal
@@ -32,10 +31,10 @@ answer_on_path-requires-clause-sound c =
     let x = some-kept (owned_at owners p) (c.requires.kept.filed p has) in
     let within = c.place-i.ensures.within in
     let row = slice_get_read clients (length clients) i ks refl (omega (arith, within, c.requires.kept.rows)) c.index-clients-i.is in
-    let there = states-at (owned_at owners) paths clients i p x.0 ks (AllKept-from_contained paths c.requires.kept.filed) at x.1 row in
+    let there = states-at (owned_at owners) paths clients i p x.0 ks (AllByRecursion-from_contained paths c.requires.kept.filed) at x.1 row in
     let stands = c.requires.holds.each i p (record { owned = x.0; clients = ks.items }) at there in
     let goes = (goes-kept c.args.r c.next-n.result c.requires.holds c.requires.going c.next-n.ensures.next).within in
-    let k = some-at ks.items c.args.r (let size = stands.sized in omega arith) in
+    let k = slice_get-some ks.items c.args.r (let size = stands.sized in omega arith) in
     let items = ap (λ (v : Vec ClientPath _). v.items) c.index-clients-i.is ∙ sym c.deref_mut.ensures.value in
     record {
       file = x.0;
@@ -71,7 +70,7 @@ answered c =
     let row = slice_get_read clients (length clients) i ks refl (omega (arith, within, c.requires.kept.rows)) c.index-clients-i.is in
     let going = goes-kept c.args.r c.next-n.result c.requires.holds c.requires.going c.next-n.ensures.next in
     let all = c.in_ok-answer.ensures.follows in
-    let there = states-at (owned_at owners) paths clients i p all.was ks (AllKept-from_contained paths c.requires.kept.filed) at all.there
+    let there = states-at (owned_at owners) paths clients i p all.was ks (AllByRecursion-from_contained paths c.requires.kept.filed) at all.there
     row in
     record {
       held = c.requires.holds;
@@ -111,7 +110,7 @@ states-after c =
     ∙ ap length c.deref_mut.ensures.value in
     states-set (owned_at c.args.owners.now) (owned_at c.answer_on_path.new.owners) c.args.paths.now c.args.clients.now i
     c.operation-o.result.now.path all.now (with_items row new) all.changes.changes c.requires.holds.named.rising
-    (AllKept-from_contained c.args.paths.now c.requires.kept.filed) c.place-i.ensures.there c.requires.kept.rows
+    (AllByRecursion-from_contained c.args.paths.now c.requires.kept.filed) c.place-i.ensures.there c.requires.kept.rows
     ∙ ap (λ (cs : List ClientPath). set (states_of (owned_at c.args.owners.now) c.args.paths.now c.args.clients.now) i
     (record { owned = all.now; clients = cs })) (with_items_is row new (omega (arith, size, row.ok.0)))
 

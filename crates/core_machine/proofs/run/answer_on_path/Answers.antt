@@ -55,5 +55,5 @@ returns c =
         changes = ChangesPath-at owners p o g old new follows.now at c.gfid_of-gfid.ensures there follows.changes;
         follows = follows.follows;
       }) (subst (λ (l : OwnerFiles). IfOk c.answer_at_owner.result (λ a. FollowsIn c.args.s.now c.args.n c.args.o.now.op c.args.r g p l new
-      c.args.clients.now c.answer_at_owner.new.clients a)) (sym c.index-owners-owner.is) c.answer_at_owner.ensures.follows);
+          c.args.clients.now c.answer_at_owner.new.clients a)) (sym c.index-owners-owner.is) c.answer_at_owner.ensures.follows);
     }

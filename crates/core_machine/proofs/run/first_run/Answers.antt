@@ -1,12 +1,12 @@
-use Rattle.fs_types.proofs.Common.{◌≡◌, List, length, All, arith, recursion_from_All, subst}
+use Rattle.fs_types.proofs.Common.{◌≡◌, length, All, arith, recursion_from_All}
 use Rattle.std.proofs.lemmas.List.Elements.{All-from_recursion}
-use Rattle.fs_script.proofs.CallerLemmas.{IsOpLine-from_job}
+use Rattle.fs_script.proofs.CallerLemmas.{AllByRecursion-from_contained, IsOpLine-from_job}
 use Rattle.core_machine.specs.Kept.{AreFreshClients}
 use Rattle.core_machine.specs.OwnerFiles.{owned_at}
 use Rattle.core_machine.specs.States.{states_of}
 use Rattle.core_machine.specs.Vocabulary.{IsFreshPath}
 use Rattle.core_machine.proofs.Refines.First.{Holds-first, IsFirst-first}
-use Rattle.core_machine.proofs.Refines.States.{AllKept-from_contained, AreKept-fresh, states-fresh, states-size}
+use Rattle.core_machine.proofs.Refines.States.{AreKept-fresh, states-fresh, states-size}
 use Rattle.core_machine.proofs.run.first_run.Goals as goal
 
 pub returns : goal.returns
@@ -21,10 +21,10 @@ returns c =
     let rows : length clients ≡ length paths = omega (arith, c.in_ok-clients.ensures.0, c.len.ensures.len) in
     let lists : length owners ≡ s.shape.servers = rw (← c.shape-shape.ensures.shape) c.in_ok-owners.ensures.sized in
     let kept = AreKept-fresh lists rows c.in_ok-owners.ensures.fresh in
-    let sized = states-size (owned_at owners) paths clients (AllKept-from_contained paths kept.filed) rows in
+    let sized = states-size (owned_at owners) paths clients (AllByRecursion-from_contained paths kept.filed) rows in
     let clean : All (AreFreshClients s.shape.clients) clients = rw (← c.shape-shape.ensures.shape) c.in_ok-clients.ensures.1 in
     let fresh = All-from_recursion (IsFreshPath s.shape.clients) states (states-fresh s.shape.clients (owned_at owners) paths clients
-    (AllKept-from_contained paths c.in_ok-owners.ensures.fresh) (recursion_from_All (AreFreshClients s.shape.clients) clients clean)) in
+    (AllByRecursion-from_contained paths c.in_ok-owners.ensures.fresh) (recursion_from_All (AreFreshClients s.shape.clients) clients clean)) in
     record {
       run = record {
         kept = kept;

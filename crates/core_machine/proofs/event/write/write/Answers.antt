@@ -1,7 +1,6 @@
-use Rattle.std.proofs.Common.{◌≡◌, ◌≤◌, length, ap, subst, sym, ◌∙◌, arith}
+use Rattle.std.proofs.Common.{length, ap, arith}
 use Rattle.std.proofs.Math.Nat.{div-le_self}
-use Rattle.fs_script.specs.declared.limits.TheConstants.{TRANSFER_LIMIT}
-use Rattle.fs_script.specs.Payload.{bytes_brought, data_bytes}
+use Rattle.fs_script.specs.Payload.{bytes_brought}
 use Rattle.fs_script.proofs.CallerLemmas.{length-payload}
 use Rattle.core_machine.proofs.event.write.write.Goals as goal
 

@@ -1,4 +1,4 @@
-use Rattle.fs_types.proofs.Common.{◌≡◌, List, ℕ, Some, subst}
+use Rattle.fs_types.proofs.Common.{List, ℕ, Some, subst}
 use Rattle.indexmap.specs.IndexMap.{UpdatesBy}
 use Rattle.core_machine.specs.OwnerFiles.{names_key}
 use Rattle.core_machine.proofs.OwnerFiles.{found-after, same_key}

@@ -1,4 +1,4 @@
-use Rattle.fs_types.proofs.Common.{◌≡◌, suc, ◌+◌, List, ◌∙◌, ap, sym, arith, slice_get, Some, None}
+use Rattle.fs_types.proofs.Common.{◌≡◌, suc, ◌+◌, ◌∙◌, ap, sym, arith, slice_get}
 use Rattle.std.specs.Map.{values_of, lookup}
 use Rattle.std.specs.Option.{option_copied_mut}
 use Rattle.std.proofs.lemmas.Map.Made.{lookup-map_values}
