@@ -1,6 +1,8 @@
 mod TextLemmas
 mod JobReports
 mod Runs
+mod FirstMoments
+mod OneReport
 mod PickLemmas
 mod PickCases
 mod WordsCases

@@ -1,6 +1,7 @@
 pub mod JobReport
 pub mod Picks
 pub mod PickedRun
+pub mod RunUnderLaws
 pub mod UsageAndRefusals
 pub mod Words
 pub mod CommandAnswer

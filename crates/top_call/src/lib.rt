@@ -3,6 +3,7 @@
 #![tactic(auto)]
 
 mod call;
+mod laws;
 mod picks;
 mod refusal;
 mod report;
@@ -12,3 +13,4 @@ mod text;
 mod words;
 
 pub use call::{top, top_calm};
+pub use laws::one_report_under;
