@@ -1,4 +1,3 @@
-mod TextLemmas
 mod JobReports
 mod Runs
 mod FirstMoments

@@ -1,4 +1,4 @@
-pub mod JobReport
+pub mod PathReport
 pub mod Picks
 pub mod PickedRun
 pub mod RunUnderLaws

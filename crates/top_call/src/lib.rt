@@ -6,10 +6,8 @@ mod call;
 mod laws;
 mod picks;
 mod refusal;
-mod report;
 mod run;
 mod sim;
-mod text;
 mod words;
 
 pub use call::{top, top_calm};

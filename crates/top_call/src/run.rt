@@ -1,18 +1,28 @@
 //! Running a job to its end, and what it reports then.
 
-ghost use Rattle.std.specs.Prelude.{◌≡◌, ℕ, ◌<◌, List, [], length, map, slice_get, unwrap_or, Some, Contains, IfNone, IfOk, OnOk};
+ghost use Rattle.std.specs.Prelude.{◌≡◌, ℕ, ◌<◌, List, [], ◌∷◌, ◌++◌, length, map, slice_get, unwrap_or, Some, Contains, IfNone, IfOk, OnOk};
 ghost use Rattle.fs_types.specs.PathText.{IsPath};
 ghost use Rattle.fs_script.specs.Report.{AreRising, IsLegal, file_state_of};
 ghost use Rattle.core_machine.specs.Moment.{file_now};
 ghost use Rattle.core_machine.specs.MomentReport.{report_of};
-ghost use Rattle.top_call.specs.JobReport.{report_view, journal_entry, file_entry};
+ghost use Rattle.fs_report.specs.ReportView.{report_view};
+ghost use Rattle.top_call.specs.PathReport.{journal_entry, file_entry};
 ghost use Rattle.top_call.specs.PickedRun.{picked, IsRunUnder, IsReportUnder};
 
-use crate::report::{JobReport, PathReport};
 use core_machine::{Core, runs_are_legal};
+use fs_plain::Journals;
+use fs_report::{FileList, Report};
 use fs_script::Script;
-use fs_types::{Path, PathFault, Rank, Want};
+use fs_types::{FileState, LineNo, Path, PathFault, Rank, Want};
 use std::alloc::Global;
+
+// What a run reports of a path.
+#[derive(Debug, Drop)]
+struct PathReport {
+    path: Path,
+    journal: Vec<LineNo>,
+    state: FileState,
+}
 
 // The pick at a place; 0 where there are none.
 fn pick_in(picks: &[u32], at: usize) -> u32
@@ -75,34 +85,51 @@ fn path_report(alloc: Global, core: &mut Core<'_>, i: usize) -> Result<PathRepor
     })
 }
 
+// Adds what is reported of a path.
+fn add_report(
+    alloc: Global,
+    journals: &mut Journals,
+    files: &mut FileList,
+    report: PathReport,
+) -> Result<(), Want>
+    ensures journal { OnOk result (journals.new ≡ journals.old ++ journal_entry report ∷ []) }
+    ensures file { OnOk result (files.new ≡ files.old ++ file_entry report ∷ []) }
+{
+    journals.add(report.path.copy(alloc)?, report.journal)?;
+    files.add(report.path, report.state)
+}
+
 // What the run reports of its paths, in byte order.
-fn path_reports(alloc: Global, core: &mut Core<'_>) -> Result<Vec<PathReport>, Want>
+fn path_lists(alloc: Global, core: &mut Core<'_>) -> Result<(Journals, FileList), Want>
     requires rising { AreRising (map (λ j. j.0) core.old.journals) }
     requires paths { (p : List ℕ) → Contains (map (λ j. j.0) core.old.journals) p → IsPath p }
-    ensures journals { IfOk result (λ v. map journal_entry v.items ≡ core.old.journals) }
-    ensures files { IfOk result (λ v. map file_entry v.items ≡ (report_of core.old).files) }
+    ensures journals { IfOk result (λ r. r.0 ≡ core.old.journals) }
+    ensures files { IfOk result (λ r. r.1 ≡ (report_of core.old).files) }
     ensures same { core.new ≡ core.old }
 {
-    let count = core.paths().len();
-    let mut reports = Vec::with_capacity(alloc, count)?;
-    for i in 0..count {
-        reports.push(path_report(alloc, core, i)?)?;
+    let mut journals = Journals::new(alloc);
+    let mut files = FileList::new(alloc);
+    for i in 0..core.paths().len() {
+        let report = path_report(alloc, core, i)?;
+        add_report(alloc, &mut journals, &mut files, report)?;
     }
-    Ok(reports)
+    Ok((journals, files))
 }
 
 /// Runs a job to its end under these picks, and reports it.
-pub fn simulate(alloc: Global, s: &Script, picks: &[u32]) -> Result<JobReport, Want>
+pub fn simulate(alloc: Global, s: &Script, picks: &[u32]) -> Result<Report, Want>
     ensures legal { IfOk result (λ r. (told : List ℕ) → IsLegal s.now (report_view r) told) }
     ensures run { IfOk result (λ r. IsReportUnder picks.now s.now (report_view r)) }
+    ensures sized { IfOk result (λ r. length r.journals ≡ length r.files) }
 {
     let mut core = Core::new(alloc, s)?;
     run_to_end(&mut core, picks)?;
     runs_are_legal();
-    let paths = path_reports(alloc, &mut core)?;
-    Ok(JobReport {
+    let (journals, files) = path_lists(alloc, &mut core)?;
+    Ok(Report {
         answers: core.into_answers(),
-        paths,
+        journals,
+        files,
     })
 }
 

@@ -1,5 +1,5 @@
 use super::simulate;
-use crate::text::report_text;
+use fs_report::report_text;
 use fs_script::read_script;
 use std::test::Fail;
 
