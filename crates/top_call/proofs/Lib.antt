@@ -1,9 +1,3 @@
-mod JobReports
-mod Runs
-mod FirstMoments
-mod OneReport
-mod PickLemmas
-mod PickCases
 mod WordsCases
 mod UsageAndRefusalCases
 mod Outputs

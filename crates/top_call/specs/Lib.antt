@@ -1,7 +1,3 @@
-pub mod PathReport
-pub mod Picks
-pub mod PickedRun
-pub mod RunUnderLaws
 pub mod UsageAndRefusals
 pub mod Words
 pub mod CommandAnswer

@@ -3,12 +3,8 @@
 #![tactic(auto)]
 
 mod call;
-mod laws;
-mod picks;
 mod refusal;
-mod run;
 mod sim;
 mod words;
 
 pub use call::{top, top_calm};
-pub use laws::one_report_under;

@@ -8,12 +8,11 @@ ghost use Rattle.fs_dev.specs.Told.{IsAtEnd};
 ghost use Rattle.top_call.specs.UsageAndRefusals.{refusal_line};
 ghost use Rattle.top_call.specs.CommandAnswer.{IsSimAnswer};
 ghost use Rattle.fs_report.specs.ReportView.{report_view};
-ghost use Rattle.top_call.specs.Picks.{first_picks};
-ghost use Rattle.top_call.specs.PickedRun.{IsReportUnder};
+ghost use Rattle.core_run.specs.Picks.{first_picks};
+ghost use Rattle.core_run.specs.PickedRun.{IsReportUnder};
 
-use crate::picks::{PICK_COUNT, picks_of};
 use crate::refusal::refusal_text;
-use crate::run::simulate;
+use core_run::{PICK_COUNT, picks_of, simulate};
 use fs_dev::{ReadAllNo, Source, read_all};
 use fs_report::report_text;
 use fs_script::limits::SCRIPT_LIMIT;
