@@ -26,7 +26,8 @@ impl Model for CalmDev {
 impl CalmDev {
     /// A device of so many bytes, none of which was written yet.
     pub fn new(alloc: Global, bytes: u64) -> Result<CalmDev, Want>
-        ensures { IfOk result (λ dev. dev ≡ replicate bytes None) }
+        ensures size { IfOk result (λ dev. length dev ≡ bytes) }
+        ensures fresh { IfOk result (λ dev. dev ≡ replicate bytes None) }
     {
         Ok(CalmDev {
             cells: vec![in alloc; None; bytes as usize]?,

@@ -1,3 +1,5 @@
+ghost use Rattle.std.specs.Prelude.{◌<◌};
+
 use super::*;
 use fs_types::Name;
 use std::test::Fail;
@@ -13,6 +15,13 @@ fn no_host_and_no_device_give_anything(rt: HostRuntime) -> Result<(), Fail> {
     Ok(())
 }
 
+// Writes a byte by what every host says of its devices.
+fn write_first<D: SpillDev + Send>(dev: &mut D, byte: u8) -> Result<(), DevFailed>
+    requires { 0 < D.size dev.old }
+{
+    dev.write_at(0, &[byte])
+}
+
 #[test]
 fn a_device_gives_what_was_written_last(rt: HostRuntime) -> Result<(), Fail> {
     let mut dev = CalmDev::new(rt.alloc(), 8)?;
@@ -21,6 +30,7 @@ fn a_device_gives_what_was_written_last(rt: HostRuntime) -> Result<(), Fail> {
     let mut out = [0; 4];
     assert_eq!(rt; dev.read_at(2, &mut out), Ok(()));
     assert_eq!(rt; out.as_slice(), b"bcxy".as_slice());
+    assert_eq!(rt; write_first(&mut dev, b'w'), Ok(()));
     Ok(())
 }
 
