@@ -9,9 +9,9 @@ use Rattle.fs_script.specs.Reading.Scripts.{job_of}
 use Rattle.fs_script.specs.Report.{Report, IsLegal}
 use Rattle.fs_script.specs.Text.{text}
 use Rattle.top_call.specs.UsageAndRefusals.{usage_line, refusal_line}
-use Rattle.top_call.specs.Picks.{first_picks}
-use Rattle.top_call.specs.PickedRun.{IsReportUnder}
-use Rattle.top_call.specs.declared.picks.TheConstants.{PICK_COUNT}
+use Rattle.core_run.specs.Picks.{first_picks}
+use Rattle.core_run.specs.PickedRun.{IsReportUnder}
+use Rattle.core_run.specs.declared.picks.TheConstants.{PICK_COUNT}
 use Rattle.top_call.specs.declared.words.Command.{Command}
 use Rattle.top_call.specs.declared.words.Command.TheVariants.{Sim}
 use Rattle.top_call.specs.Words.{command_of}

@@ -3,7 +3,7 @@
 ghost use Rattle.std.specs.Prelude.{◌≡◌, ◌++◌, IfOk, OnOk};
 ghost use Rattle.top_call.specs.UsageAndRefusals.{reason_text, refusal_line, usage_line};
 
-use crate::text::append_number;
+use fs_report::append_number;
 use fs_script::{Reason, ScriptFault};
 use fs_types::{LineNo, Want};
 use std::alloc::Global;

@@ -1,22 +1,20 @@
 //! The command `sim`: a script from the input, simulated, and its report as a text.
 
-ghost use Rattle.std.specs.Prelude.{◌≡◌, ◌≢◌, ◌⊎◌, ℕ, List, Err, IfOk, IfSome, IsErrOf};
+ghost use Rattle.std.specs.Prelude.{◌≡◌, ◌≢◌, ◌⊎◌, ℕ, List, length, Err, IfOk, IfSome, IsErrOf};
 ghost use Rattle.fs_script.specs.Report.{Report, IsLegal};
 ghost use Rattle.fs_script.specs.Text.{text};
 ghost use Rattle.fs_types.specs.Faults.{HasRisen};
-ghost use Rattle.top_call.specs.Told.{IsAtEnd};
+ghost use Rattle.fs_dev.specs.Told.{IsAtEnd};
 ghost use Rattle.top_call.specs.UsageAndRefusals.{refusal_line};
 ghost use Rattle.top_call.specs.CommandAnswer.{IsSimAnswer};
-ghost use Rattle.top_call.specs.JobReport.{report_view};
-ghost use Rattle.top_call.specs.Picks.{first_picks};
-ghost use Rattle.top_call.specs.PickedRun.{IsReportUnder};
+ghost use Rattle.fs_report.specs.ReportView.{report_view};
+ghost use Rattle.core_run.specs.Picks.{first_picks};
+ghost use Rattle.core_run.specs.PickedRun.{IsReportUnder};
 
-use crate::outside::{ReadAllNo, Source, read_all};
-use crate::picks::{PICK_COUNT, picks_of};
 use crate::refusal::refusal_text;
-use crate::report::JobReport;
-use crate::run::simulate;
-use crate::text::report_text;
+use core_run::{PICK_COUNT, picks_of, simulate};
+use fs_dev::{ReadAllNo, Source, read_all};
+use fs_report::report_text;
 use fs_script::limits::SCRIPT_LIMIT;
 use fs_script::{Script, ScriptFault, read_script};
 use fs_types::{Status, Want};
@@ -42,10 +40,11 @@ pub enum SimFault {
 }
 
 // What a script's job reports where it is run under the picks of a seed.
-fn run_under_seed(alloc: Global, seed: u64, s: &Script) -> Result<JobReport, Want>
+fn run_under_seed(alloc: Global, seed: u64, s: &Script) -> Result<fs_report::Report, Want>
     ensures legal { IfOk result (λ r. (told : List ℕ) → IsLegal s.now (report_view r) told) }
     ensures run { IfOk result
         (λ r. IsReportUnder (first_picks seed PICK_COUNT) s.now (report_view r)) }
+    ensures sized { IfOk result (λ r. length r.journals ≡ length r.files) }
 {
     let picks = picks_of(alloc, seed, PICK_COUNT)?;
     simulate(alloc, s, &picks)

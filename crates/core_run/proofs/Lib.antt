@@ -1,0 +1,6 @@
+mod JobReports
+mod Runs
+mod FirstMoments
+mod OneReport
+mod PickLemmas
+mod PickCases

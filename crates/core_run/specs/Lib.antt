@@ -1,0 +1,4 @@
+pub mod Picks
+pub mod PickedRun
+pub mod PathReport
+pub mod RunUnderLaws

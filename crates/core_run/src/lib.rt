@@ -1,0 +1,11 @@
+//! Running a job under picks, from its first moment to its report: the picks of a seed, and the run in
+//! which each pick chooses whose turn an event is. It touches nothing outside memory.
+#![tactic(auto)]
+
+mod laws;
+mod picks;
+mod run;
+
+pub use laws::one_report_under;
+pub use picks::{MULTIPLIER, PICK_COUNT, picks_of};
+pub use run::simulate;

@@ -1,0 +1,11 @@
+-- What is kept of files, seen as a list of paths with their files.
+use Rattle.std.specs.Prelude.{ℕ, List, map}
+use Rattle.fs_types.specs.declared.file_state.FileState.{FileState}
+use Rattle.fs_report.specs.declared.file_list.FileEntry.{FileEntry}
+
+-- a path with its file
+abbrev pub entry_of : FileEntry → List ℕ × FileState
+entry_of f = (f.path, f.state)
+
+abbrev pub entries_of : List FileEntry → List (List ℕ × FileState)
+entries_of fs = map entry_of fs

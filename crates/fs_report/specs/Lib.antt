@@ -1,0 +1,2 @@
+pub mod FileList
+pub mod ReportView

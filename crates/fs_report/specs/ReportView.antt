@@ -1,0 +1,11 @@
+-- The report that a job's parts are.
+use Rattle.fs_script.specs.Report.{Report}
+use Rattle.fs_report.specs.declared.report.Report as kept
+
+-- the report whose answers, journals and files these are
+abbrev pub report_view : kept.Report → Report
+report_view r = record {
+  answers = r.answers.list;
+  journals = r.journals;
+  files = r.files;
+}

@@ -1,0 +1,20 @@
+//! What a job reports, and what it leaves at its end.
+
+use crate::file_list::FileList;
+use fs_plain::Journals;
+use fs_types::{Answers, StagedOut};
+
+/// What a job reports: the answers by line, and for each path in byte order its journal and its file.
+#[derive(Debug, Drop)]
+pub struct Report {
+    pub answers: Answers,
+    pub journals: Journals,
+    pub files: FileList,
+}
+
+/// What a job leaves at its end: its report, and what was staged out, in rising order of lines.
+#[derive(Debug, Drop)]
+pub struct JobEnd {
+    pub report: Report,
+    pub outs: Vec<StagedOut>,
+}
