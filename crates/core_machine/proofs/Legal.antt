@@ -5,5 +5,5 @@ pub mod Journals
 pub mod Phases
 pub mod Turns
 pub mod Ends
-pub mod Steps
+pub mod LegalSteps
 pub mod Runs

@@ -1,6 +1,6 @@
-pub mod Lines
+pub mod ProgramLines
 pub mod LeastPhase
 pub mod Going
 pub mod NextLines
 pub mod Advanced
-pub mod Kept
+pub mod ProgramsKept

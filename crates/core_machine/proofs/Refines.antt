@@ -3,12 +3,12 @@ pub mod Syncs
 pub mod Answers
 pub mod Owners
 pub mod Clients
-pub mod Journals
-pub mod States
+pub mod JournalsKept
+pub mod StatesOfPaths
 pub mod Now
-pub mod Steps
+pub mod LinesAnswered
 pub mod Moments
-pub mod Told
+pub mod PhaseEnds
 pub mod Ready
 pub mod First
 pub mod Reads

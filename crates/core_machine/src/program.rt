@@ -59,7 +59,7 @@ impl Program {
 }
 
 // The next two functions give what the programs need of a job and no more, so that no proof leans
-// on today's limits of one client and no barriers.
+// on the limits of a script.
 
 /// How many clients the job has. Each operation is of one of them.
 pub fn client_count(s: &Script) -> u32

@@ -1,5 +1,5 @@
 mod JobReports
-mod Runs
+mod PickedRuns
 mod FirstMoments
 mod OneReport
 mod PickLemmas

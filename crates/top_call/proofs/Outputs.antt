@@ -14,7 +14,7 @@ use Rattle.fs_types.specs.Faults.{HasRisen}
 use Rattle.fs_dev.specs.Told.{IsAtEnd, then_bytes}
 use Rattle.top_call.specs.declared.words.Command.{Command}
 use Rattle.top_call.specs.declared.words.Command.TheVariants.{Sim}
-use Rattle.top_call.specs.Words.{command_of}
+use Rattle.top_call.specs.CommandWords.{command_of}
 use Rattle.top_call.specs.CommandAnswer.{IsSimAnswer, IsCommandAnswer, IsAnswer}
 use Rattle.top_call.specs.Output.{IsOutput, WritesAnswer}
 use Rattle.top_call.specs.Top.{InputChange, OutputChange, AsksForJob, IsTopCall}

@@ -2,7 +2,7 @@
 use Rattle.std.proofs.Common.{◌≡◌, [], ◌∷◌, Some, None, refl}
 use Rattle.std.specs.Prelude.{codes}
 use Rattle.top_call.specs.declared.words.Command.TheVariants.{Sim}
-use Rattle.top_call.specs.Words.{command_of}
+use Rattle.top_call.specs.CommandWords.{command_of}
 
 sim_zero : command_of (codes "sim" ∷ codes "0" ∷ []) ≡ Some (Sim 0)
 sim_zero = refl

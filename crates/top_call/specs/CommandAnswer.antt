@@ -14,7 +14,7 @@ use Rattle.core_run.specs.PickedRun.{IsReportUnder}
 use Rattle.core_run.specs.declared.picks.TheConstants.{PICK_COUNT}
 use Rattle.top_call.specs.declared.words.Command.{Command}
 use Rattle.top_call.specs.declared.words.Command.TheVariants.{Sim}
-use Rattle.top_call.specs.Words.{command_of}
+use Rattle.top_call.specs.CommandWords.{command_of}
 
 -- the input is the script of a job, and what was written is the text of a report: that of the job's
 -- run under the first picks of the seed, and legal for the job, whichever clients' devices tell

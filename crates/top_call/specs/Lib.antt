@@ -1,5 +1,5 @@
 pub mod UsageAndRefusals
-pub mod Words
+pub mod CommandWords
 pub mod CommandAnswer
 pub mod Output
 pub mod Top

@@ -10,7 +10,7 @@ use Rattle.fs_types.specs.Faults.{HasRisen}
 use Rattle.fs_dev.specs.Told.{IsAtEnd, then_bytes}
 use Rattle.fs_dev.specs.Sink.{TookFront}
 use Rattle.top_call.specs.declared.words.Command.TheVariants.{Sim}
-use Rattle.top_call.specs.Words.{command_of}
+use Rattle.top_call.specs.CommandWords.{command_of}
 use Rattle.top_call.specs.UsageAndRefusals.{usage_line}
 use Rattle.top_call.specs.Output.{IsOutput}
 

@@ -2,7 +2,7 @@
 
 ghost use Rattle.std.specs.Prelude.{◌≡◌, map};
 ghost use Rattle.std.specs.String.{string_bytes};
-ghost use Rattle.top_call.specs.Words.{command_of};
+ghost use Rattle.top_call.specs.CommandWords.{command_of};
 
 use fs_script::read_number;
 

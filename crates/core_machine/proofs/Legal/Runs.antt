@@ -6,7 +6,7 @@ use Rattle.fs_script.specs.Vocabulary.{Job, journal_of, IsLegal}
 use Rattle.core_machine.specs.Vocabulary.{Moment, journal, ready, IsFirst, report_of, Turn, step, HasClients, IsLegalMoment, Reaches}
 use Rattle.fs_script.proofs.CallerLemmas.{IsLegalSoFar-none}
 use Rattle.core_machine.proofs.Legal.Turns.{IsTurn-from_ready, step-is}
-use Rattle.core_machine.proofs.Legal.Steps.{step-legal}
+use Rattle.core_machine.proofs.Legal.LegalSteps.{step-legal}
 use Rattle.core_machine.proofs.Legal.Ends.{report-legal}
 
 -- ---- the first moment

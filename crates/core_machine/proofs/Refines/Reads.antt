@@ -8,8 +8,8 @@ use Rattle.core_machine.specs.States.{AreKept, states_of}
 use Rattle.core_machine.specs.Vocabulary.{ClientPath, OwnedPath, PathState, file_of, file_now, Places, journals_of, moment_of, Holds, Stands}
 use Rattle.fs_script.proofs.CallerLemmas.{AllByRecursion-from_contained, slice_get-map_some, slice_get-some}
 use Rattle.core_machine.proofs.Paths.{journal_of-zip, journal_of-absent}
-use Rattle.core_machine.proofs.Refines.Journals.{journal_kept}
-use Rattle.core_machine.proofs.Refines.States.{states-at}
+use Rattle.core_machine.proofs.Refines.JournalsKept.{journal_kept}
+use Rattle.core_machine.proofs.Refines.StatesOfPaths.{states-at}
 
 -- the place of a path of which its owner keeps x, and what is kept for the path there
 pub record IsThere (paths : List (List ℕ)) (states : List PathState) (p : List ℕ) (x : OwnedPath) : Type 0 where

@@ -1,7 +1,7 @@
 use Rattle.fs_types.proofs.Common.{common_steps, ◌≡◌, ◌<◌, ◌∙◌, Some, length, map, sym, ap, arith, rules, map-set_same, on_ok_weaker}
 use Rattle.fs_script.specs.Vocabulary.{op_at}
 use Rattle.core_machine.specs.Vocabulary.{with_program_line}
-use Rattle.core_machine.proofs.Programs.Lines.{map-with_program_line}
+use Rattle.core_machine.proofs.Programs.ProgramLines.{map-with_program_line}
 use Rattle.core_machine.proofs.program.add_line.Goals.{In-Some-Op}
 use Rattle.core_machine.proofs.program.add_line.Goals as goal
 

@@ -1,6 +1,6 @@
 use Rattle.fs_types.proofs.Common.{◌≡◌, ◌∙◌, ◌++◌, length, take, drop, map, replicate, ap, rules, arith, range_with_len, places}
 use Rattle.core_machine.specs.Vocabulary.{Program}
-use Rattle.core_machine.proofs.Programs.Lines.{lines_before, map-lines_before-first, with_program_line-more}
+use Rattle.core_machine.proofs.Programs.ProgramLines.{lines_before, map-lines_before-first, with_program_line-more}
 use Rattle.core_machine.proofs.program.programs_of.Goals as goal
 
 pub loop-n-init : goal.loop-n-init

@@ -7,8 +7,8 @@ use Rattle.core_machine.specs.States.{states_of}
 use Rattle.fs_script.proofs.CallerLemmas.{AllByRecursion-from_contained, op_at-within, program-op, slice_get-some}
 use Rattle.core_machine.proofs.Refines.Goes.{goes-kept}
 use Rattle.core_machine.proofs.Refines.Moments.{step-is}
-use Rattle.core_machine.proofs.Refines.States.{AreKept-changed, some-kept, states-at, states-set}
-use Rattle.core_machine.proofs.Refines.Steps.{Answered, Holds-after}
+use Rattle.core_machine.proofs.Refines.StatesOfPaths.{AreKept-changed, some-kept, states-at, states-set}
+use Rattle.core_machine.proofs.Refines.LinesAnswered.{Answered, Holds-after}
 use Rattle.core_machine.proofs.run.answer_line.Goals.{After-set}
 use Rattle.core_machine.proofs.run.answer_line.Goals as goal
 

@@ -6,7 +6,7 @@ use Rattle.core_machine.specs.OwnerFiles.{owned_at}
 use Rattle.core_machine.specs.States.{states_of}
 use Rattle.core_machine.specs.Vocabulary.{IsFreshPath}
 use Rattle.core_machine.proofs.Refines.First.{Holds-first, IsFirst-first}
-use Rattle.core_machine.proofs.Refines.States.{AreKept-fresh, states-fresh, states-size}
+use Rattle.core_machine.proofs.Refines.StatesOfPaths.{AreKept-fresh, states-fresh, states-size}
 use Rattle.core_machine.proofs.run.first_run.Goals as goal
 
 pub returns : goal.returns

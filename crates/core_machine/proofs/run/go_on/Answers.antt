@@ -6,8 +6,8 @@ use Rattle.core_machine.specs.OwnerFiles.{owned_at}
 use Rattle.core_machine.specs.States.{AreKept, states_of}
 use Rattle.core_machine.specs.declared.owner_files.OwnerFiles.{OwnerFiles}
 use Rattle.core_machine.specs.Vocabulary.{with_board, moment_of, after_line, Holds, Places}
-use Rattle.core_machine.proofs.Refines.States.{AreKept-told, states-told}
-use Rattle.core_machine.proofs.Refines.Told.{Holds-told, moment-told}
+use Rattle.core_machine.proofs.Refines.StatesOfPaths.{AreKept-told, states-told}
+use Rattle.core_machine.proofs.Refines.PhaseEnds.{Holds-told, moment-told}
 use Rattle.core_machine.proofs.run.go_on.Goals.{After-run-1}
 use Rattle.core_machine.proofs.run.go_on.Goals as goal
 

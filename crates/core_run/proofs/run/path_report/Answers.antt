@@ -1,6 +1,6 @@
 use Rattle.std.proofs.Common.{List, ℕ, Some, ap, sym, ◌∙◌}
 use Rattle.std.specs.List.{slice_get}
-use Rattle.core_run.proofs.Runs.{entry-at}
+use Rattle.core_run.proofs.PickedRuns.{entry-at}
 use Rattle.core_run.proofs.run.path_report.Goals as goal
 
 pub returns-clause-journal : goal.returns-clause-journal

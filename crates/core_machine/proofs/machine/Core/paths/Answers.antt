@@ -3,8 +3,8 @@ use Rattle.fs_script.proofs.CallerLemmas.{AllByRecursion-from_contained}
 use Rattle.core_machine.specs.Core.{states}
 use Rattle.core_machine.specs.Moment.{Moment}
 use Rattle.core_machine.specs.OwnerFiles.{owned_at}
-use Rattle.core_machine.proofs.Refines.Journals.{paths-beside}
-use Rattle.core_machine.proofs.Refines.States.{states-size}
+use Rattle.core_machine.proofs.Refines.JournalsKept.{paths-beside}
+use Rattle.core_machine.proofs.Refines.StatesOfPaths.{states-size}
 use Rattle.core_machine.proofs.machine.Core.paths.Goals as goal
 
 pub returns : goal.returns

@@ -1,6 +1,6 @@
 use Rattle.fs_types.proofs.Common.{◌∙◌, length, sym, ap, rules, arith, nat_tests, nil_from_length, filter_same}
-use Rattle.core_machine.proofs.Programs.Kept.{IsReady, Advances, Leaves, ready-within, some-next, places-new, are-new, IsKept-stays}
-use Rattle.core_machine.proofs.Programs.Kept.{IsKept-leaves, IsKept-ends, IsKept-begins, some-begin, least-later}
+use Rattle.core_machine.proofs.Programs.ProgramsKept.{IsReady, Advances, Leaves, ready-within, some-next, places-new, are-new, IsKept-stays}
+use Rattle.core_machine.proofs.Programs.ProgramsKept.{IsKept-leaves, IsKept-ends, IsKept-begins, some-begin, least-later}
 use Rattle.core_machine.proofs.turns.Turns.advance.Goals.{After-r, After-advance, After-retain}
 use Rattle.core_machine.proofs.turns.Turns.advance.Goals as goal
 

@@ -1,7 +1,7 @@
 use Rattle.fs_types.proofs.Common.{◌≡◌, ◌∙◌, Some, sym, subst, arith, IsSome}
 use Rattle.fs_script.specs.Vocabulary.{phase}
 use Rattle.core_machine.specs.Vocabulary.{next_in}
-use Rattle.core_machine.proofs.Programs.Kept.{IsReady, ready-within, some-next, line-ready}
+use Rattle.core_machine.proofs.Programs.ProgramsKept.{IsReady, ready-within, some-next, line-ready}
 use Rattle.core_machine.proofs.turns.Turns.next.Goals.{After-r, After-unwrap}
 use Rattle.core_machine.proofs.turns.Turns.next.Goals as goal
 

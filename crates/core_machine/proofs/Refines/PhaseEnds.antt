@@ -6,7 +6,7 @@ use Rattle.fs_script.specs.Vocabulary.{Given, answer_at, Job, phase, Answering}
 use Rattle.core_machine.specs.Vocabulary.{Extent, OwnedPath, PathState, known_of, file_of, board_now, with_board, Places, IsAnsweredUpTo}
 use Rattle.core_machine.specs.Vocabulary.{client_at, moment_of, Holds, Stands, StandsForOwner}
 use Rattle.fs_script.proofs.CallerLemmas.{AllByRecursion-weaker}
-use Rattle.core_machine.proofs.Refines.Journals.{journal_kept}
+use Rattle.core_machine.proofs.Refines.JournalsKept.{journal_kept}
 
 -- lines of phases before a later one are all of the lines
 all-earlier : (s : Job) (now : ℕ) (J : List ℕ) → AllByRecursion (λ m. phase s m < now) J
