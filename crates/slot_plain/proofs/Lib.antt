@@ -1,0 +1,3 @@
+mod FreeLists
+mod LeastTrees
+mod FreeTrees
