@@ -1,3 +1,6 @@
+mod Lists
 mod FreeLists
 mod LeastTrees
 mod FreeTrees
+mod Tables
+mod TableSteps

@@ -1,2 +1,4 @@
 pub mod FreePlaces
 pub mod LeastTree
+pub mod Slots
+pub mod Entries
