@@ -1,4 +1,3 @@
-pub mod ToldLemmas
 mod TextLemmas
 mod JobReports
 mod Runs

@@ -11,7 +11,7 @@ use Rattle.fs_script.specs.Grammar.{IsScript}
 use Rattle.fs_script.specs.Reading.Scripts.{job_of}
 use Rattle.fs_script.proofs.CallerLemmas.{script_is_job}
 use Rattle.fs_types.specs.Faults.{HasRisen}
-use Rattle.top_call.specs.Told.{IsAtEnd, then_bytes}
+use Rattle.fs_dev.specs.Told.{IsAtEnd, then_bytes}
 use Rattle.top_call.specs.declared.words.Command.{Command}
 use Rattle.top_call.specs.declared.words.Command.TheVariants.{Sim}
 use Rattle.top_call.specs.Words.{command_of}

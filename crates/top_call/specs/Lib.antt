@@ -1,10 +1,3 @@
-pub mod Told
-pub mod Source
-pub mod Sink
-pub mod ReadAll
-pub mod InMemory
-pub mod SpillDev
-pub mod Host
 pub mod JobReport
 pub mod Picks
 pub mod PickedRun

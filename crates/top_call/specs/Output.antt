@@ -2,8 +2,8 @@
 use Rattle.std.specs.Prelude.{◌≡◌, ◌⊎◌, ℕ, List, Option}
 use Rattle.fs_types.specs.declared.status.Status.{Status}
 use Rattle.fs_types.specs.declared.status.Status.TheVariants as statuses
-use Rattle.top_call.specs.Told.{then_bytes}
-use Rattle.top_call.specs.Sink.{TookFront}
+use Rattle.fs_dev.specs.Told.{then_bytes}
+use Rattle.fs_dev.specs.Sink.{TookFront}
 use Rattle.top_call.specs.CommandAnswer.{IsAnswer}
 
 -- the text of a status was written, whole

@@ -7,8 +7,8 @@ use Rattle.fs_script.specs.Job.{Job}
 use Rattle.fs_script.specs.Grammar.{IsScript}
 use Rattle.fs_script.specs.Reading.Scripts.{job_of}
 use Rattle.fs_types.specs.Faults.{HasRisen}
-use Rattle.top_call.specs.Told.{IsAtEnd, then_bytes}
-use Rattle.top_call.specs.Sink.{TookFront}
+use Rattle.fs_dev.specs.Told.{IsAtEnd, then_bytes}
+use Rattle.fs_dev.specs.Sink.{TookFront}
 use Rattle.top_call.specs.declared.words.Command.TheVariants.{Sim}
 use Rattle.top_call.specs.Words.{command_of}
 use Rattle.top_call.specs.UsageAndRefusals.{usage_line}

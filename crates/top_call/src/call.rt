@@ -6,10 +6,10 @@ ghost use Rattle.fs_types.specs.Faults.{HasRisen};
 ghost use Rattle.top_call.specs.Output.{WritesAnswer};
 ghost use Rattle.top_call.specs.Top.{IsTopCall};
 
-use crate::outside::{Host, Sink, Source, WriteFailed, write_all};
 use crate::refusal::usage_text;
 use crate::sim::{SimFault, sim};
 use crate::words::{Command, read_command};
+use fs_dev::{Host, Sink, Source, WriteFailed, write_all};
 use fs_types::Status;
 use std::alloc::Global;
 use std::sync::Wait;

@@ -1,9 +1,8 @@
-//! The call that the program makes, and what it is made of: the words, the outside, a simulated job
-//! and its text.
+//! The call that the program makes, and what it is made of: the words, a simulated job and its text.
+//! It touches nothing outside memory but by the source, the sink and the host that it is handed.
 #![tactic(auto)]
 
 mod call;
-mod outside;
 mod picks;
 mod refusal;
 mod report;
@@ -13,7 +12,3 @@ mod text;
 mod words;
 
 pub use call::{top, top_calm};
-pub use outside::{
-    CalmSource, DevFailed, Host, HostFailed, KeptName, MemSink, MemSource, NoDev, NoHost,
-    ReadAllNo, ReadFailed, RefusedCall, Sink, Source, SpillDev, WriteFailed, read_all, write_all,
-};

@@ -4,19 +4,19 @@ ghost use Rattle.std.specs.Prelude.{◌≡◌, ◌≢◌, ◌⊎◌, ℕ, List, 
 ghost use Rattle.fs_script.specs.Report.{Report, IsLegal};
 ghost use Rattle.fs_script.specs.Text.{text};
 ghost use Rattle.fs_types.specs.Faults.{HasRisen};
-ghost use Rattle.top_call.specs.Told.{IsAtEnd};
+ghost use Rattle.fs_dev.specs.Told.{IsAtEnd};
 ghost use Rattle.top_call.specs.UsageAndRefusals.{refusal_line};
 ghost use Rattle.top_call.specs.CommandAnswer.{IsSimAnswer};
 ghost use Rattle.top_call.specs.JobReport.{report_view};
 ghost use Rattle.top_call.specs.Picks.{first_picks};
 ghost use Rattle.top_call.specs.PickedRun.{IsReportUnder};
 
-use crate::outside::{ReadAllNo, Source, read_all};
 use crate::picks::{PICK_COUNT, picks_of};
 use crate::refusal::refusal_text;
 use crate::report::JobReport;
 use crate::run::simulate;
 use crate::text::report_text;
+use fs_dev::{ReadAllNo, Source, read_all};
 use fs_script::limits::SCRIPT_LIMIT;
 use fs_script::{Script, ScriptFault, read_script};
 use fs_types::{Status, Want};

@@ -9,11 +9,12 @@ ghost use Rattle.unifyfs.specs.Messages.{message_of};
 
 use crate::standard_input::StandardInput;
 use crate::standard_output::StandardOutput;
+use fs_dev::NoHost;
 use fs_types::{Status, Want};
 use std::env;
 use std::io::ErrorKind;
 use std::process::ExitCode;
-use top_call::{NoHost, top};
+use top_call::top;
 
 // The words after the program's name. Where one of them is no text there are none, which is no
 // command.

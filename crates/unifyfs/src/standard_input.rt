@@ -2,8 +2,8 @@
 
 ghost use Rattle.std.specs.Prelude.{◌≡◌, None};
 
+use fs_dev::{ReadFailed, Source};
 use std::io::Read;
-use top_call::{ReadFailed, Source};
 
 /// Reads a stream, which the program makes standard input, and counts the reads that failed.
 #[derive(Drop)]

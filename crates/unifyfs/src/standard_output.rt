@@ -2,8 +2,8 @@
 
 ghost use Rattle.std.specs.Prelude.{◌≡◌, None};
 
+use fs_dev::{Sink, WriteFailed};
 use std::io::Write;
-use top_call::{Sink, WriteFailed};
 
 /// Writes to a stream without a buffer, which the program makes standard output, and counts the
 /// writes that failed.

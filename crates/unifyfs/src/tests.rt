@@ -1,8 +1,8 @@
 use super::*;
+use fs_dev::{ReadFailed, Sink, Source, WriteFailed};
 use std::io;
 use std::io::{Read, Write};
 use std::test::Fail;
-use top_call::{ReadFailed, Sink, Source, WriteFailed};
 
 // A stream of the system whose calls fail.
 #[derive(Drop)]

@@ -8,7 +8,7 @@ use self::cases::{
 use self::many_clients::{neighbours_job, neighbours_report};
 use self::refusals::{FOUR_CLIENTS, HEADERS, LINES, SIZES};
 use super::{top, top_calm};
-use crate::outside::{CalmSource, MemSink, MemSource, NoHost};
+use fs_dev::{CalmSource, MemSink, MemSource, NoHost};
 use fs_types::{Status, Want};
 use std::alloc::Global;
 use std::test::Fail;
