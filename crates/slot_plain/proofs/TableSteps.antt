@@ -1,21 +1,34 @@
 -- What the calls of a table of slots do to its entries, and to the table that a clause sees.
-use Rattle.std.proofs.Common.{◌≡◌, ◌≢◌, ℕ, suc, zero, ◌+◌, ◌-◌, ◌≤◌, ◌<◌, ◌==◌, Bool, true, false, List, [], ◌∷◌, ◌++◌, Some, None, length, set, slice_get, get_or, map, replicate, arith}
+use Rattle.std.proofs.Common.{◌≡◌, ◌≢◌, ℕ, suc, zero, ◌+◌, ◌-◌, ◌≤◌, ◌<◌, ◌==◌, Bool, true, false, List, [], ◌∷◌, ◌++◌, Some, None, length, set, slice_get, get_or, map, replicate, take, drop, slice_range, Option, IfSome, Vec, Global, take-take, arith}
 use Rattle.std.proofs.Common.{sym, ◌∙◌, ap, refl, ◌⊎◌, inl, inr, subst, if◌then◌else◌}
-use Rattle.std.proofs.lemmas.Bool.{eq-eqb, ne_eqb, eqb-true}
+use Rattle.std.proofs.lemmas.Bool.{eq-eqb, ne_eqb, eqb-true, cases_eq}
 use Rattle.std.proofs.lemmas.List.{length-set, length_push, length-map, length-append}
-use Rattle.std.proofs.lemmas.Option.{slice_get_within, slice_get-map}
+use Rattle.std.proofs.lemmas.Option.{slice_get_within, slice_get-map, slice_get_cases}
 use Rattle.std.specs.Option.{option_map}
 use Rattle.slot_plain.specs.FreePlaces.{free_places, free_from}
-use Rattle.slot_plain.specs.Slots.{Slot, free_slot, taken_slot, pinned, released, slot_at, free_slots, is_free, with_taken}
+use Rattle.slot_plain.specs.Slots.{Slot, free_slot, taken_slot, pinned, released, filled, bytes_in, HasPieceOf, slot_at, free_slots, is_free, with_taken}
 use Rattle.slot_plain.specs.Entries.{Table, table_of, entry_slot, slots_of, is_unheld, IsEntry, AreEntries}
 use Rattle.slot_plain.specs.declared.entry.Entry.{Entry}
+use Rattle.slot_plain.specs.declared.entry.FilledPiece.{FilledPiece}
+use Rattle.std.proofs.lemmas.Slice.{between_is}
 use Rattle.slot_plain.proofs.Lists.{slice_get-read, set-same}
 use Rattle.slot_plain.proofs.FreeLists.{length-free_from-le}
-use Rattle.slot_plain.proofs.Tables.{slot_at-entry, held-has_entry, slots_of-set, slots_of-push, free_slots-slots_of, length-slots_of, AreEntries-set, AreEntries-push, length-flags, free_flags}
+use Rattle.slot_plain.proofs.Tables.{slot_at-entry, slot_at-none, held-has_entry, slots_of-set, slots_of-push, free_slots-slots_of, length-slots_of, AreEntries-set, AreEntries-push, length-flags, free_flags}
 
 -- the table with another slot at a number
 abbrev pub with_slot : Table → ℕ → Slot → Table
 with_slot t n s = record { shmem = t.shmem; chunk = t.chunk; made = t.made; slots = set t.slots n s }
+
+-- a part of a list that lies before a place is that part of the places before it
+slice_range-take : (n : ℕ) (xs : List ℕ) (i j : ℕ) → j ≤ n → slice_range (take n xs) i j ≡ slice_range xs i j
+slice_range-take n xs i j le =
+    between_is (take n xs) i j ∙ ap (drop i) (take-take j n xs le) ∙ sym (between_is xs i j)
+
+-- the piece of an entry, where the slot has one of so many bytes
+piece_of : (o : Option FilledPiece) (len count : ℕ) (buffer : Vec ℕ Global)
+    → HasPieceOf (entry_slot (record { count = count; piece = o; buffer = buffer })) len → (p : FilledPiece) × (o ≡ Some p) × (len ≤ p.len)
+piece_of None len count buffer has = absurd has
+piece_of (Some p) len count buffer has = (p, refl, has)
 
 module _ (shmem chunk total : ℕ) (free : List Bool) (entries : List Entry) (are : AreEntries shmem chunk total free entries)
     (table : Table) (is : table_of shmem chunk total entries ≡ table) where
@@ -28,6 +41,24 @@ module _ (shmem chunk total : ℕ) (free : List Bool) (entries : List Entry) (ar
       let count = ap (λ slots. (slot_at slots n).count) slots_is in
       let found = held-has_entry entries total n (omega (arith, held, count)) in
       slice_get_within entries n found.0 found.1
+
+  -- a slot that has a piece is held
+  pub piece_held : (n len : ℕ) → HasPieceOf (slot_at table.slots n) len → 0 < (slot_at table.slots n).count
+  piece_held n len has = elim (slice_get_cases entries n).1 [
+    | inl found ↦
+        let e = found.0 in
+        let here = slot_at-entry entries total n e found.2 in
+        let slot : slot_at table.slots n ≡ entry_slot e = ap (λ slots. slot_at slots n) (sym slots_is) ∙ here in
+        let there = piece_of e.piece len e.count e.buffer (subst (λ (s : Slot). HasPieceOf s len) slot has) in
+        elim (cases_eq e.count 0) [
+          | inl none ↦ let no_piece = (are.each n e found.2).free none in let other = there.1 in cc
+          | inr some ↦ let count = ap (λ (s : Slot). s.count) slot in omega (arith, count, some)
+        ]
+    | inr none ↦
+        let slot : slot_at table.slots n ≡ free_slot =
+        ap (λ slots. slot_at slots n) (sym slots_is) ∙ slot_at-none entries total n none.0 in
+        absurd (subst (λ (s : Slot). HasPieceOf s len) slot has)
+  ]
 
   module _ (n : ℕ) (now : Entry) (within : n < length entries) (read : now ≡ get_or entries n now) where
     entry_at : slice_get entries n ≡ Some now
@@ -118,6 +149,56 @@ module _ (shmem chunk total : ℕ) (free : List Bool) (entries : List Entry) (ar
           let one : ((slot_at table.slots n).count == 1) ≡ false = ne_eqb _ _ (λ e. more (omega arith)) in
           changed (record { count = now.count - 1; piece = now.piece; buffer = now.buffer }) (released (slot_at table.slots n))
           (rw one (rw slot_is refl))
+
+    -- ---- a piece
+
+    pub buffer_size : n < table.shmem → length now.buffer.items ≡ table.chunk
+    buffer_size in_memory =
+        let mem = ap (λ (t : Table). t.shmem) is in
+        let bytes = ap (λ (t : Table). t.chunk) is in
+        (are.each n now entry_at).buffer (omega arith) ∙ bytes
+
+    module _ (held : 0 < (slot_at table.slots n).count) (p : FilledPiece) (buffer : Vec ℕ Global) where
+      pub filled-entries : p.len ≤ table.chunk → (n < table.shmem → length buffer.items ≡ table.chunk)
+          → AreEntries shmem chunk total free (set entries n (record { count = now.count; piece = Some p; buffer = buffer }))
+      filled-entries fits size =
+          let count = ap (λ (s : Slot). s.count) slot_is in
+          let mem = ap (λ (t : Table). t.shmem) is in
+          let bytes = ap (λ (t : Table). t.chunk) is in
+          kept (record { count = now.count; piece = Some p; buffer = buffer }) refl
+          (record {
+            buffer = λ lt. size (omega arith) ∙ sym bytes;
+            piece = λ q at. let same : p ≡ q = cc in subst (λ (r : FilledPiece). r.len ≤ chunk) same (omega arith);
+            free = λ none. absurd (omega arith);
+          })
+
+      pub filled-table : (bytes : List ℕ) → take p.len buffer.items ≡ bytes
+          → table_of shmem chunk total (set entries n (record { count = now.count; piece = Some p; buffer = buffer }))
+          ≡ with_slot table n (filled (record { id = p.id; len = p.len; bytes = Some bytes }) (slot_at table.slots n))
+      filled-table bytes first =
+          changed (record { count = now.count; piece = Some p; buffer = buffer })
+          (filled (record { id = p.id; len = p.len; bytes = Some bytes }) (slot_at table.slots n))
+          (rw (slot_is, first) refl)
+
+    -- a piece is read from a slot of shared memory
+    module _ (in_memory : n < table.shmem) (from size : ℕ) (inside : HasPieceOf (slot_at table.slots n) (from + size)) where
+      read_piece : (p : FilledPiece) × (now.piece ≡ Some p) × (from + size ≤ p.len)
+      read_piece = piece_of now.piece (from + size) now.count now.buffer (subst (λ (s : Slot). HasPieceOf s (from + size)) slot_is inside)
+
+      pub read_bound : from + size ≤ length now.buffer.items
+      read_bound =
+          let fits = (are.each n now entry_at).piece read_piece.0 read_piece.1 in
+          let buffer = buffer_size in_memory in
+          let bytes = ap (λ (t : Table). t.chunk) is in
+          omega (arith, fits, buffer, bytes, read_piece.2)
+
+      pub read_bytes : (out : List ℕ) → out ≡ slice_range now.buffer.items from (from + size)
+          → IfSome (bytes_in (slot_at table.slots n)) (λ bytes. out ≡ slice_range bytes from (from + size))
+      read_bytes out is =
+          subst (λ (s : Slot). IfSome (bytes_in s) (λ bytes. out ≡ slice_range bytes from (from + size))) (sym slot_is)
+          (subst (λ (o : Option FilledPiece). IfSome (bytes_in (entry_slot (record { count = now.count; piece = o; buffer = now.buffer })))
+          (λ bytes. out ≡ slice_range bytes from (from + size))) (sym read_piece.1)
+          (is ∙ sym (slice_range-take read_piece.0.len now.buffer.items from (from + size) read_piece.2)))
 
     -- ---- the lowest free slot is taken
 

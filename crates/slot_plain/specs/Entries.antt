@@ -1,7 +1,8 @@
 -- What is kept of the slots that were ever taken, and the slots that it stands for.
-use Rattle.std.specs.Prelude.{◌≡◌, ℕ, ◌-◌, ◌≤◌, ◌<◌, ◌==◌, Bool, List, ◌++◌, length, map, take, replicate, Option, Some, None, IfSome, slice_get}
+use Rattle.std.specs.Prelude.{◌≡◌, ℕ, ◌-◌, ◌≤◌, ◌<◌, ◌==◌, Bool, List, ◌++◌, length, map, take, replicate, Option, Some, None, slice_get, slice_set}
 use Rattle.std.specs.Option.{option_map}
-use Rattle.slot_plain.specs.Slots.{StoredPiece, Slot, free_slot}
+use Rattle.fs_types.specs.Pieces.{Piece}
+use Rattle.slot_plain.specs.Slots.{Slot, free_slot, filled, slot_at}
 use Rattle.slot_plain.specs.declared.entry.Entry.{Entry}
 use Rattle.slot_plain.specs.declared.entry.FilledPiece.{FilledPiece}
 use Rattle.slot_plain.specs.declared.least_tree.TheConstants.{NO_SLOT}
@@ -49,3 +50,13 @@ pub record AreEntries (shmem chunk total : ℕ) (free : List Bool) (entries : Li
   pub numbers : total ≤ NO_SLOT
   pub flags : free ≡ map is_unheld entries
   pub each : (n : ℕ) (e : Entry) → slice_get entries n ≡ Some e → IsEntry shmem chunk n e
+
+-- a slot has a piece of so many bytes, and nothing else changed; of the bytes in memory nothing is said
+abbrev pub IsFilled : ℕ → Piece → ℕ → Table → Table → Type 0
+IsFilled n id len old new =
+    (bytes : List ℕ) × (new ≡ record {
+      shmem = old.shmem;
+      chunk = old.chunk;
+      made = old.made;
+      slots = slice_set old.slots n (filled (record { id = id; len = len; bytes = Some bytes }) (slot_at old.slots n));
+    })

@@ -1,5 +1,5 @@
 -- The slots of a client's log: how often each is held, and the piece that it has.
-use Rattle.std.specs.Prelude.{ℕ, ◌+◌, ◌-◌, ◌==◌, nat_lt, Bool, List, map, count_by, fold, Option, Some, None, slice_set, slice_index_or, if◌then◌else◌}
+use Rattle.std.specs.Prelude.{ℕ, ◌+◌, ◌-◌, ◌≤◌, option_and_then, IsSomeAnd, ◌==◌, nat_lt, Bool, List, map, count_by, fold, Option, Some, None, slice_set, slice_index_or, if◌then◌else◌}
 use Rattle.fs_types.specs.Pieces.{Piece}
 use Rattle.slot_plain.specs.FreePlaces.{free_places}
 
@@ -33,6 +33,14 @@ pinned s = record { count = s.count + 1; piece = s.piece }
 -- a slot that is held once less; where nothing else holds it, it is free
 abbrev pub released : Slot → Slot
 released s = if s.count == 1 then free_slot else record { count = s.count - 1; piece = s.piece }
+
+-- the bytes of a slot's piece, where it has one and they are told
+abbrev pub bytes_in : Slot → Option (List ℕ)
+bytes_in s = option_and_then (λ p. p.bytes) s.piece
+
+-- a slot has a piece of at least so many bytes
+abbrev pub HasPieceOf : Slot → ℕ → Type 0
+HasPieceOf s len = IsSomeAnd s.piece (λ p. len ≤ p.len)
 
 abbrev pub is_free : Slot → Bool
 is_free s = s.count == 0

@@ -1,14 +1,15 @@
 //! The slots of a log in memory: how often each is held, which piece it has, and the bytes of those in
 //! shared memory. It touches nothing outside memory.
 
-ghost use Rattle.std.specs.Prelude.{◌≡◌, ◌+◌, ◌-◌, ◌^◌, ◌<◌, ◌≤◌, [], ◌∷◌, length, take, Some, IfOk, OnOk, OnErr, slice_set, replicate, vec_capacity};
-ghost use Rattle.slot_plain.specs.Slots.{slot_at, free_slots, held_count, free_slot, taken_slot, with_taken, pinned, released};
+ghost use Rattle.std.specs.Prelude.{◌≡◌, ◌+◌, ◌-◌, ◌^◌, ◌<◌, ◌≤◌, [], ◌∷◌, length, take, slice_range, Some, IfSome, IfOk, OnOk, OnErr, slice_set, replicate, vec_capacity};
+ghost use Rattle.slot_plain.specs.Slots.{slot_at, free_slots, held_count, free_slot, taken_slot, with_taken, pinned, released, filled, bytes_in, HasPieceOf};
+ghost use Rattle.slot_plain.specs.Entries.{IsFilled};
 ghost use Rattle.slot_plain.specs.declared.least_tree.TheConstants.{NO_SLOT};
 
-use crate::entry::Entry;
+use crate::entry::{Entry, FilledPiece};
 use crate::free_slots::FreeSlots;
 use fs_script::Shape;
-use fs_types::Want;
+use fs_types::{PieceId, Want};
 use std::alloc::Global;
 use std::marker::Model;
 
@@ -36,6 +37,22 @@ impl Model for SlotTable {
     ghost view = { λ t. table_of t.shmem t.chunk t.total t.entries.items };
 
     ghost invariant = { λ t. AreEntries t.shmem t.chunk t.total t.free t.entries.items };
+}
+
+// Puts bytes over the first ones.
+fn put_first(all: &mut [u8], bytes: &[u8])
+    requires { length bytes.now ≤ length all.old }
+    ensures { take (length bytes.now) all.new ≡ bytes.now }
+{
+    all[..bytes.len()].copy_from_slice(bytes);
+}
+
+// Fills `out` with the bytes from the place `start` on.
+fn copy_part(all: &[u8], start: usize, out: &mut [u8])
+    requires { start + length out.old ≤ length all.now }
+    ensures { out.new ≡ slice_range all.now start (start + length out.old) }
+{
+    out.copy_from_slice(&all[start..start + out.len()]);
 }
 
 impl SlotTable {
@@ -181,5 +198,43 @@ impl SlotTable {
             entry.piece = None;
             self.free.put_back(slot);
         }
+    }
+
+    /// Fills a slot of shared memory with a piece. It takes no memory.
+    pub fn fill(&mut self, slot: u32, id: PieceId, b: &[u8])
+        requires in_memory { slot < self.old.shmem }
+        requires taken { 0 < (slot_at self.old.slots slot).count }
+        requires fits { length b.now ≤ self.old.chunk }
+        ensures { self.new ≡ record self.old {
+          slots = slice_set self.old.slots slot
+              (filled (record { id = id; len = length b.now; bytes = Some b.now })
+              (slot_at self.old.slots slot));
+        } }
+    {
+        let entry = &mut self.entries[slot as usize];
+        put_first(&mut entry.buffer, b);
+        entry.piece = Some(FilledPiece {
+            id,
+            len: b.len() as u32,
+        });
+    }
+
+    /// Fills a slot of the spill device with a piece, whose bytes are kept there. It takes no memory.
+    pub fn fill_spilled(&mut self, slot: u32, id: PieceId, len: u32)
+        requires taken { 0 < (slot_at self.old.slots slot).count }
+        requires fits { len ≤ self.old.chunk }
+        ensures filled { IsFilled slot id len self.old self.new }
+    {
+        self.entries[slot as usize].piece = Some(FilledPiece { id, len });
+    }
+
+    /// Fills `out` with bytes of the piece in a slot of shared memory.
+    pub fn read(&self, slot: u32, from: u32, out: &mut [u8])
+        requires in_memory { slot < self.now.shmem }
+        requires inside { HasPieceOf (slot_at self.now.slots slot) (from + length out.old) }
+        ensures { IfSome (bytes_in (slot_at self.now.slots slot))
+            (λ bytes. out.new ≡ slice_range bytes from (from + length out.old)) }
+    {
+        copy_part(&self.entries[slot as usize].buffer, from as usize, out);
     }
 }
