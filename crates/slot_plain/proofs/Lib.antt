@@ -4,3 +4,6 @@ mod LeastTrees
 mod FreeTrees
 mod Tables
 mod TableSteps
+mod Cells
+mod Logs
+mod LogSteps

@@ -1,8 +1,8 @@
 -- What the calls of a table of slots do to its entries, and to the table that a clause sees.
-use Rattle.std.proofs.Common.{◌≡◌, ◌≢◌, ℕ, suc, zero, ◌+◌, ◌-◌, ◌≤◌, ◌<◌, ◌==◌, Bool, true, false, List, [], ◌∷◌, ◌++◌, Some, None, length, set, slice_get, get_or, map, replicate, take, drop, slice_range, Option, IfSome, Vec, Global, take-take, arith}
-use Rattle.std.proofs.Common.{sym, ◌∙◌, ap, refl, ◌⊎◌, inl, inr, subst, if◌then◌else◌}
+use Rattle.std.proofs.Common.{◌≡◌, ◌≢◌, ℕ, ◌+◌, ◌-◌, ◌≤◌, ◌<◌, ◌==◌, Bool, true, false, List, [], ◌∷◌, ◌++◌, Some, None, length, set, slice_get, get_or, map, replicate, take, drop, slice_range, Option, IfSome, Vec, Global, take-take, arith}
+use Rattle.std.proofs.Common.{sym, ◌∙◌, ap, refl, inl, inr, subst}
 use Rattle.std.proofs.lemmas.Bool.{eq-eqb, ne_eqb, eqb-true, cases_eq}
-use Rattle.std.proofs.lemmas.List.{length-set, length_push, length-map, length-append}
+use Rattle.std.proofs.lemmas.List.{length-set, length-map, length-append}
 use Rattle.std.proofs.lemmas.Option.{slice_get_within, slice_get-map, slice_get_cases}
 use Rattle.std.specs.Option.{option_map}
 use Rattle.slot_plain.specs.FreePlaces.{free_places, free_from}

@@ -1,5 +1,5 @@
 -- What is kept of the slots that were ever taken, and the slots that it stands for.
-use Rattle.std.specs.Prelude.{◌≡◌, ℕ, ◌-◌, ◌≤◌, ◌<◌, ◌==◌, Bool, List, ◌++◌, length, map, take, replicate, Option, Some, None, slice_get, slice_set}
+use Rattle.std.specs.Prelude.{◌≡◌, ℕ, ◌-◌, ◌≤◌, ◌<◌, ◌==◌, Bool, List, ◌++◌, length, map, take, replicate, Some, None, slice_get, slice_set}
 use Rattle.std.specs.Option.{option_map}
 use Rattle.fs_types.specs.Pieces.{Piece}
 use Rattle.slot_plain.specs.Slots.{Slot, free_slot, filled, slot_at}

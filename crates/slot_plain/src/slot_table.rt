@@ -1,9 +1,10 @@
 //! The slots of a log in memory: how often each is held, which piece it has, and the bytes of those in
 //! shared memory. It touches nothing outside memory.
 
-ghost use Rattle.std.specs.Prelude.{◌≡◌, ◌+◌, ◌-◌, ◌^◌, ◌<◌, ◌≤◌, [], ◌∷◌, length, take, slice_range, Some, IfSome, IfOk, OnOk, OnErr, slice_set, replicate, vec_capacity};
+ghost use Rattle.std.specs.Prelude.{◌≡◌, nat_lt, ◌+◌, ◌-◌, ◌^◌, ◌<◌, ◌≤◌, [], ◌∷◌, length, take, slice_range, Some, IfSome, IfOk, OnOk, OnErr, slice_set, replicate, vec_capacity};
 ghost use Rattle.slot_plain.specs.Slots.{slot_at, free_slots, held_count, free_slot, taken_slot, with_taken, pinned, released, filled, bytes_in, HasPieceOf};
 ghost use Rattle.slot_plain.specs.Entries.{IsFilled};
+ghost use Rattle.slot_plain.specs.Log.{spill_place};
 ghost use Rattle.slot_plain.specs.declared.least_tree.TheConstants.{NO_SLOT};
 
 use crate::entry::{Entry, FilledPiece};
@@ -73,6 +74,21 @@ impl SlotTable {
             free: FreeSlots::new(alloc),
             entries: Vec::new(alloc),
         }
+    }
+
+    /// Whether a slot is in shared memory.
+    pub fn is_in_memory(&self, slot: u32) -> bool
+        ensures { result ≡ nat_lt slot self.now.shmem }
+    {
+        slot < self.shmem
+    }
+
+    /// Where byte `from` of a slot behind shared memory stands on the device.
+    pub fn spill_place(&self, slot: u32, from: u32) -> u64
+        requires { self.now.shmem ≤ slot }
+        ensures { result ≡ spill_place self.now.shmem self.now.chunk slot + from }
+    {
+        u64::from(slot - self.shmem) * u64::from(self.chunk) + u64::from(from)
     }
 
     /// How often a slot is held.
@@ -220,12 +236,16 @@ impl SlotTable {
     }
 
     /// Fills a slot of the spill device with a piece, whose bytes are kept there. It takes no memory.
-    pub fn fill_spilled(&mut self, slot: u32, id: PieceId, len: u32)
+    pub fn fill_spilled(&mut self, slot: u32, id: PieceId, b: &[u8])
         requires taken { 0 < (slot_at self.old.slots slot).count }
-        requires fits { len ≤ self.old.chunk }
-        ensures filled { IsFilled slot id len self.old self.new }
+        requires fits { length b.now ≤ self.old.chunk }
+        ensures filled { IsFilled slot id (length b.now) self.old self.new }
     {
-        self.entries[slot as usize].piece = Some(FilledPiece { id, len });
+        let entry = &mut self.entries[slot as usize];
+        entry.piece = Some(FilledPiece {
+            id,
+            len: b.len() as u32,
+        });
     }
 
     /// Fills `out` with bytes of the piece in a slot of shared memory.

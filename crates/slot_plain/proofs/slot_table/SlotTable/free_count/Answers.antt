@@ -1,8 +1,7 @@
-use Rattle.std.proofs.Common.{◌≡◌, ◌≤◌, ◌+◌, ap, length, arith}
-use Rattle.slot_plain.specs.FreePlaces.{free_places}
+use Rattle.std.proofs.Common.{ap, length, arith}
 use Rattle.slot_plain.specs.Slots.{free_slots}
 use Rattle.slot_plain.specs.Entries.{Table}
-use Rattle.slot_plain.proofs.Tables.{length-free_slots, free_flags}
+use Rattle.slot_plain.proofs.Tables.{free_flags}
 use Rattle.slot_plain.proofs.slot_table.SlotTable.free_count.Goals as goal
 
 pub overflow_add-result : goal.overflow_add-result

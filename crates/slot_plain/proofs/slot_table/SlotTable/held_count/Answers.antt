@@ -1,4 +1,4 @@
-use Rattle.std.proofs.Common.{◌≡◌, ◌≤◌, ◌+◌, ap, arith}
+use Rattle.std.proofs.Common.{ap, arith}
 use Rattle.slot_plain.specs.Slots.{held_count}
 use Rattle.slot_plain.specs.Entries.{Table}
 use Rattle.slot_plain.proofs.Tables.{held_flags}

@@ -1,4 +1,4 @@
-use Rattle.std.proofs.Common.{◌≡◌, ◌≤◌, ◌-◌, length}
+use Rattle.std.proofs.Common.{◌≡◌, ◌-◌}
 use Rattle.slot_plain.proofs.slot_table.SlotTable.make_entries.Given as goal
 
 abbrev pub invariant-loop-alloc : goal.invariant-loop-alloc

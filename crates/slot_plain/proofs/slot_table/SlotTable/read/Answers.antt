@@ -1,4 +1,4 @@
-use Rattle.std.proofs.Common.{◌≡◌, ◌≤◌, ◌+◌, List, ℕ, length, slice_range, ap, ◌∙◌, arith}
+use Rattle.std.proofs.Common.{◌+◌, List, ℕ, length, slice_range, ap, ◌∙◌, arith}
 use Rattle.slot_plain.proofs.TableSteps.{entry_of_held, piece_held, read_bound, read_bytes}
 use Rattle.slot_plain.proofs.slot_table.SlotTable.read.Goals as goal
 

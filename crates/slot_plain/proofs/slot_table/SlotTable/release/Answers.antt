@@ -1,4 +1,3 @@
-use Rattle.std.proofs.Common.{◌≡◌, arith, ap}
 use Rattle.slot_plain.proofs.TableSteps.{entry_of_held, held_flag, freed-entries, freed-table, lowered-entries, lowered-table}
 use Rattle.slot_plain.proofs.slot_table.SlotTable.release.Goals as goal
 

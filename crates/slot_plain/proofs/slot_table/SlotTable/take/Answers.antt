@@ -1,4 +1,4 @@
-use Rattle.std.proofs.Common.{◌≡◌, ap, length, arith}
+use Rattle.std.proofs.Common.{ap, length, arith}
 use Rattle.slot_plain.specs.Entries.{Table}
 use Rattle.slot_plain.proofs.Tables.{length-slots_of}
 use Rattle.slot_plain.proofs.TableSteps.{length-free_slots-le}

@@ -1,4 +1,4 @@
-use Rattle.std.proofs.Common.{◌<◌, arith}
+use Rattle.std.proofs.Common.{arith}
 use Rattle.slot_plain.proofs.TableSteps.{some_flag, flag_within, taken-entries, taken-table, taken-lowest}
 use Rattle.slot_plain.proofs.slot_table.SlotTable.take_lowest.Goals as goal
 

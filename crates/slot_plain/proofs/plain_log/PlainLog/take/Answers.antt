@@ -1,0 +1,57 @@
+use Rattle.std.proofs.Common.{ap, ◌∙◌, length, take, refl, Err, arith}
+use Rattle.slot_plain.specs.declared.take_no.TakeNo.TheVariants.{NoSpace}
+use Rattle.slot_plain.proofs.LogSteps.{free_is, taken_log, taken_backs}
+use Rattle.slot_plain.proofs.plain_log.PlainLog.take.Goals as goal
+
+pub returns-then-free-k-clause-no_space : goal.returns-then-free-k-clause-no_space
+returns-then-free-k-clause-no_space g c =
+    let i = c.self.inside in
+    let free = c.free_count-free.ensures ∙ ap length (free_is i.rank i.table
+    (record { size = g.D.SpillDev.size i.dev; cells = g.D.SpillDev.cells i.dev; faults = g.D.SpillDev.faults i.dev })
+    i.faults c.args.self.now c.self.view_is) in
+    λ _. ap (λ f. Err (NoSpace c.args.k f)) free
+
+pub returns-then-free-k-clause-refused : goal.returns-then-free-k-clause-refused
+returns-then-free-k-clause-refused g c =
+    let i = c.self.inside in
+    let free = c.free_count-free.ensures ∙ ap length (free_is i.rank i.table
+    (record { size = g.D.SpillDev.size i.dev; cells = g.D.SpillDev.cells i.dev; faults = g.D.SpillDev.faults i.dev })
+    i.faults c.args.self.now c.self.view_is) in
+    (refl, free, omega (arith, free, c.if-free-k.true))
+
+pub returns-in_err-take-clause-no_space : goal.returns-in_err-take-clause-no_space
+returns-in_err-take-clause-no_space g c =
+    let i = c.self.inside in
+    let free = c.free_count-free.ensures ∙ ap length (free_is i.rank i.table
+    (record { size = g.D.SpillDev.size i.dev; cells = g.D.SpillDev.cells i.dev; faults = g.D.SpillDev.faults i.dev })
+    i.faults c.args.self.now c.self.view_is) in
+    λ few. absurd (omega (arith, free, few, c.if-free-k.false))
+
+pub invariant_of-self-2 : goal.invariant_of-self-2
+invariant_of-self-2 g c =
+    let i = c.self.inside in
+    taken_backs i.rank i.table
+    (record { size = g.D.SpillDev.size i.dev; cells = g.D.SpillDev.cells i.dev; faults = g.D.SpillDev.faults i.dev })
+    i.faults c.args.self.now c.self.view_is c.self.invariant c.in_ok-take.field-0.items c.take.new.self.made c.take.new.self c.in_ok-take.ensures.taken
+
+pub returns-clause-lowest : goal.returns-clause-lowest
+returns-clause-lowest g c =
+    let i = c.self.inside in
+    c.in_ok-take.ensures.lowest ∙ ap (take c.args.k) (free_is i.rank i.table
+    (record { size = g.D.SpillDev.size i.dev; cells = g.D.SpillDev.cells i.dev; faults = g.D.SpillDev.faults i.dev })
+    i.faults c.args.self.now c.self.view_is)
+
+pub returns-clause-taken : goal.returns-clause-taken
+returns-clause-taken g c =
+    let i = c.self.inside in
+    taken_log i.rank i.table
+    (record { size = g.D.SpillDev.size i.dev; cells = g.D.SpillDev.cells i.dev; faults = g.D.SpillDev.faults i.dev })
+    i.faults c.args.self.now c.self.view_is c.in_ok-take.field-0.items c.take.new.self.made c.take.new.self c.in_ok-take.ensures.taken
+
+pub returns-clause-no_space : goal.returns-clause-no_space
+returns-clause-no_space g c =
+    let i = c.self.inside in
+    let free = c.free_count-free.ensures ∙ ap length (free_is i.rank i.table
+    (record { size = g.D.SpillDev.size i.dev; cells = g.D.SpillDev.cells i.dev; faults = g.D.SpillDev.faults i.dev })
+    i.faults c.args.self.now c.self.view_is) in
+    λ few. absurd (omega (arith, free, few, c.if-free-k.false))
