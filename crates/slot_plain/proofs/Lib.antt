@@ -7,3 +7,4 @@ mod TableSteps
 mod Cells
 mod Logs
 mod LogSteps
+mod Taken

@@ -11,3 +11,6 @@ mod take_no;
 
 pub use plain_log::PlainLog;
 pub use take_no::TakeNo;
+
+#[cfg(test)]
+mod tests;

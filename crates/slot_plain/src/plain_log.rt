@@ -1,7 +1,7 @@
 //! One client's log on one thread: its slots, and the device behind shared memory.
 
-ghost use Rattle.std.specs.Prelude.{◌≡◌, ◌+◌, ◌-◌, ◌*◌, ◌^◌, ◌<◌, ◌≤◌, length, take, slice_range, None, Err, IsOk, IfSome, IfOk, IfErr, OnOk, OnErr, slice_set, replicate};
-ghost use Rattle.slot_plain.specs.Slots.{slot_at, free_slots, held_count, free_slot, with_taken, pinned, released, bytes_in, HasPieceOf};
+ghost use Rattle.std.specs.Prelude.{◌≡◌, ℕ, All, Contains, ◌+◌, ◌-◌, ◌*◌, ◌^◌, ◌<◌, ◌≤◌, length, take, slice_range, None, Err, IsOk, IfSome, IfOk, IfErr, OnOk, OnErr, slice_set, replicate};
+ghost use Rattle.slot_plain.specs.Slots.{slot_at, free_slots, held_count, free_slot, taken_slot, with_taken, pinned, released, bytes_in, HasPieceOf};
 ghost use Rattle.slot_plain.specs.Log.{Fills, FailsToFill, FailsToRead};
 ghost use Rattle.slot_plain.specs.TakeNo.{IsTakeNo};
 
@@ -93,6 +93,10 @@ impl<D: SpillDev + Drop> PlainLog<D> {
         ensures taken { IfOk result (λ v. self.new ≡ record self.old {
           slots = with_taken v.items self.old.slots;
         }) }
+        ensures many { IfOk result (λ v. length v.items ≡ k) }
+        ensures each { IfOk result (λ v. All (λ n. slot_at self.new.slots n ≡ taken_slot) v.items) }
+        ensures others { IfOk result (λ v. (n : ℕ) → ¬ Contains v.items n
+            → slot_at self.new.slots n ≡ slot_at self.old.slots n) }
         ensures no_space { length (free_slots self.old.slots) < k
             → result ≡ Err (TakeNo.NoSpace k (length (free_slots self.old.slots))) }
         ensures refused { IfErr result (IsTakeNo k (length (free_slots self.old.slots))) }
