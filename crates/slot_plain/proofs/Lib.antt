@@ -8,3 +8,5 @@ mod Cells
 mod Logs
 mod LogSteps
 mod Taken
+mod Cases
+pub mod Shapes

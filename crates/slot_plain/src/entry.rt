@@ -17,7 +17,7 @@ pub struct Entry {
     pub count: u64,
     /// Its piece, once it was filled.
     pub piece: Option<FilledPiece>,
-    /// The bytes of a slot of shared memory: as many as the slot has room for, of which its piece is
-    /// the first ones. A slot of the spill device has none here.
+    /// The bytes of a slot of shared memory: as many as the slot has room for, of which its piece
+    /// is the first ones. A slot of the spill device has none here.
     pub buffer: Vec<u8>,
 }

@@ -1,5 +1,5 @@
-//! Which slots of a log are free, so that the lowest one is found without a walk. It touches nothing
-//! outside memory.
+//! Which slots of a log are free, so that the lowest one is found without a walk. It touches
+//! nothing outside memory.
 
 ghost use Rattle.std.specs.Prelude.{◌≡◌, ◌+◌, ◌^◌, ◌<◌, [], ◌∷◌, ◌++◌, true, false, length, Some, OnOk, OnErr, slice_get, slice_set};
 ghost use Rattle.slot_plain.specs.FreePlaces.{free_places};

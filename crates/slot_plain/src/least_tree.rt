@@ -1,5 +1,5 @@
-//! Binary trees of slot numbers, each node with the least number below it. They lie in one list, and
-//! touch nothing else.
+//! Binary trees of slot numbers, each node with the least number below it. They lie in one list,
+//! and touch nothing else.
 
 ghost use Rattle.std.specs.Prelude.{◌≡◌, ◌≢◌, ℕ, ◌+◌, ◌*◌, ◌/◌, ◌^◌, ◌≤◌, ◌<◌, IfOk, OnOk, length};
 ghost use Rattle.slot_plain.specs.LeastTree.{node, HasLesser, IsTree, IsTreeBut, LeafSet, Widens};
@@ -101,7 +101,8 @@ impl LeastTree {
         ensures room { OnOk result (leaves < self.new.room) }
         ensures more { self.old.room ≤ self.new.room }
         ensures tree { IsTree self.new.nodes.items self.new.room }
-        ensures leaves { Widens self.old.room self.new.room self.old.nodes.items self.new.nodes.items }
+        ensures leaves { Widens self.old.room self.new.room
+            self.old.nodes.items self.new.nodes.items }
     {
         if leaves < self.room {
             return Ok(());

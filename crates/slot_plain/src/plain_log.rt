@@ -17,8 +17,8 @@ use std::marker::Model;
 /// One client's log of slots that are counted. Each slot holds one piece of bytes: the first slots
 /// in shared memory, and the others on a device.
 ///
-/// A clause sees all slots, each with its count and its piece; the device as its trait shows it; and
-/// the calls on it that failed for this log.
+/// A clause sees all slots, each with its count and its piece; the device as its trait shows it;
+/// and the calls on it that failed for this log.
 #[derive(Drop)]
 pub struct PlainLog<D: SpillDev + Drop> {
     rank: Rank,
@@ -94,7 +94,8 @@ impl<D: SpillDev + Drop> PlainLog<D> {
           slots = with_taken v.items self.old.slots;
         }) }
         ensures many { IfOk result (λ v. length v.items ≡ k) }
-        ensures each { IfOk result (λ v. All (λ n. slot_at self.new.slots n ≡ taken_slot) v.items) }
+        ensures each { IfOk result
+            (λ v. All (λ n. slot_at self.new.slots n ≡ taken_slot) v.items) }
         ensures others { IfOk result (λ v. (n : ℕ) → ¬ Contains v.items n
             → slot_at self.new.slots n ≡ slot_at self.old.slots n) }
         ensures no_space { length (free_slots self.old.slots) < k
@@ -130,8 +131,8 @@ impl<D: SpillDev + Drop> PlainLog<D> {
         self.table.release(slot);
     }
 
-    /// Fills a slot with a piece: one that is held, and was not filled since it was taken. It takes no
-    /// memory. Only a slot behind shared memory can fail to be filled: by the one write to the device.
+    /// Fills a slot with a piece: one that is held, and was not filled since it was taken. It takes
+    /// no memory. A slot behind shared memory is filled by one write to the device, which can fail.
     pub fn fill(&mut self, slot: u32, id: PieceId, b: &[u8]) -> Result<(), DevFault>
         requires taken { 0 < (slot_at self.old.slots slot).count }
         requires unfilled { (slot_at self.old.slots slot).piece ≡ None }
@@ -151,9 +152,9 @@ impl<D: SpillDev + Drop> PlainLog<D> {
         Ok(())
     }
 
-    /// Fills `out` with the bytes from the place `from` of a slot's piece on. It takes no memory. Where
-    /// `out` is not empty and the slot is behind shared memory, it makes one read of the device, which
-    /// can fail.
+    /// Fills `out` with the bytes from the place `from` of a slot's piece on. It takes no memory.
+    /// Where `out` isn't empty and the slot is behind shared memory, it makes one read of the
+    /// device, which can fail.
     pub fn read_piece(&mut self, slot: u32, from: u32, out: &mut [u8]) -> Result<(), DevFault>
         requires { HasPieceOf (slot_at self.old.slots slot) (from + length out.old) }
         ensures given { OnOk result (IfSome (bytes_in (slot_at self.old.slots slot))

@@ -1,5 +1,5 @@
-//! The slots of a log in memory: how often each is held, which piece it has, and the bytes of those in
-//! shared memory. It touches nothing outside memory.
+//! The slots of a log in memory: how often each is held, which piece it has, and the bytes of those
+//! in shared memory. It touches nothing outside memory.
 
 ghost use Rattle.std.specs.Prelude.{◌≡◌, nat_lt, ◌+◌, ◌-◌, ◌^◌, ◌<◌, ◌≤◌, [], ◌∷◌, length, take, slice_range, Some, IfSome, IfOk, OnOk, OnErr, slice_set, replicate, vec_capacity};
 ghost use Rattle.slot_plain.specs.Slots.{slot_at, free_slots, held_count, free_slot, taken_slot, with_taken, pinned, released, filled, bytes_in, HasPieceOf};
@@ -235,7 +235,8 @@ impl SlotTable {
         });
     }
 
-    /// Fills a slot of the spill device with a piece, whose bytes are kept there. It takes no memory.
+    /// Fills a slot of the spill device with a piece, whose bytes are kept there. It takes no
+    /// memory.
     pub fn fill_spilled(&mut self, slot: u32, id: PieceId, b: &[u8])
         requires taken { 0 < (slot_at self.old.slots slot).count }
         requires fits { length b.now ≤ self.old.chunk }

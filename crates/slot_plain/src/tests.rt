@@ -1,4 +1,4 @@
-ghost use Rattle.std.specs.Prelude.{◌≡◌, ◌<◌, ◌≤◌, length, IfOk};
+ghost use Rattle.std.specs.Prelude.{◌≡◌, ◌+◌, ◌<◌, ◌≤◌, length, IfOk, OnOk};
 ghost use Rattle.slot_plain.specs.Slots.{slot_at, HasPieceOf};
 
 use super::*;
@@ -43,7 +43,8 @@ fn store<D: SpillDev + Drop>(
 ) -> Result<u32, Fail>
     requires some { 0 < length b.now }
     requires fits { length b.now ≤ log.old.chunk }
-    ensures { IfOk result (λ slot. HasPieceOf (slot_at log.new.slots slot) (length b.now)) }
+    ensures piece { IfOk result (λ slot. HasPieceOf (slot_at log.new.slots slot) (length b.now)) }
+    ensures chunk { OnOk result (log.new.chunk ≡ log.old.chunk) }
 {
     let slots = log.take(alloc, 1).ok().ok_or("a slot is free")?;
     let slot = slots[0];
@@ -53,15 +54,40 @@ fn store<D: SpillDev + Drop>(
     Ok(slot)
 }
 
+// Whether some bytes of a piece are read.
+fn reads<D: SpillDev + Drop>(log: &mut PlainLog<D>, slot: u32, from: u32, out: &mut [u8]) -> bool
+    requires { HasPieceOf (slot_at log.old.slots slot) (from + length out.old) }
+    ensures { log.new.chunk ≡ log.old.chunk }
+{
+    match log.read_piece(slot, from, out) {
+        Ok(()) => true,
+        Err(_) => false,
+    }
+}
+
+// Why slots are not taken.
+fn refusal<D: SpillDev + Drop>(alloc: Global, log: &mut PlainLog<D>, k: u64) -> Option<TakeNo>
+    ensures { log.new.chunk ≡ log.old.chunk }
+{
+    match log.take(alloc, k) {
+        Ok(_) => None,
+        Err(e) => Some(e),
+    }
+}
+
 // Holds a slot once more, if it is held.
-fn pin<D: SpillDev + Drop>(log: &mut PlainLog<D>, slot: u32) {
+fn pin<D: SpillDev + Drop>(log: &mut PlainLog<D>, slot: u32)
+    ensures { log.new.chunk ≡ log.old.chunk }
+{
     if log.count(slot) > 0 && log.count(slot) < 9 {
         log.pin(slot);
     }
 }
 
 // Holds a slot once less, if it is held.
-fn release<D: SpillDev + Drop>(log: &mut PlainLog<D>, slot: u32) {
+fn release<D: SpillDev + Drop>(log: &mut PlainLog<D>, slot: u32)
+    ensures { log.new.chunk ≡ log.old.chunk }
+{
     if log.count(slot) > 0 {
         log.release(slot);
     }
@@ -75,16 +101,18 @@ fn a_piece_is_in_memory_and_the_next_on_the_device(rt: HostRuntime) -> Result<()
 
     let first = store(alloc, &mut log, part(0), b"in memory")?;
     let mut out = [0; 3];
-    assert_eq!(rt; log.read_piece(first, 3, &mut out), Ok(()));
-    assert_eq!(rt; (first, out.as_slice()), (0, b"mem".as_slice()));
+    assert!(rt; reads(&mut log, first, 3, &mut out));
+    assert_eq!(rt; first, 0);
+    assert_eq!(rt; out.as_slice(), b"mem".as_slice());
 
     let second = store(alloc, &mut log, part(1), b"on the device")?;
     let mut out = [0; 6];
-    assert_eq!(rt; log.read_piece(second, 7, &mut out), Ok(()));
-    assert_eq!(rt; (second, out.as_slice()), (1, b"device".as_slice()));
+    assert!(rt; reads(&mut log, second, 7, &mut out));
+    assert_eq!(rt; second, 1);
+    assert_eq!(rt; out.as_slice(), b"device".as_slice());
 
     assert_eq!(rt;
-        log.take(alloc, 1).err(),
+        refusal(alloc, &mut log, 1),
         Some(TakeNo::NoSpace { need: 1, free: 0 })
     );
     pin(&mut log, 0);
@@ -98,7 +126,7 @@ fn a_piece_is_in_memory_and_the_next_on_the_device(rt: HostRuntime) -> Result<()
     };
     assert_eq!(rt; log.line(), line);
     assert_eq!(rt;
-        log.take(alloc, 2).err(),
+        refusal(alloc, &mut log, 2),
         Some(TakeNo::NoSpace { need: 2, free: 1 })
     );
     let again = store(alloc, &mut log, part(2), b"again")?;
