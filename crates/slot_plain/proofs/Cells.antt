@@ -1,7 +1,9 @@
 -- Ranges of a device's cells: what a write leaves of them.
-use Rattle.std.proofs.Common.{◌≡◌, ℕ, suc, zero, ◌+◌, ◌-◌, ◌≤◌, List, [], ◌∷◌, ◌++◌, Option, Some, None, IsSome, IfSome, All, length, take, drop, map, slice_range, unwrap_or, arith, sym, ◌∙◌, ap, refl, ◌⊎◌, inl, inr, subst, take-take}
+use Rattle.std.proofs.Common.{◌≡◌, ℕ, suc, zero, ◌+◌, ◌-◌, ◌≤◌, List, [], ◌∷◌, ◌++◌, Option, Some, None, IsSome, IfSome, All, length}
+use Rattle.std.proofs.Common.{take, drop, map, slice_range, unwrap_or, arith, sym, ◌∙◌, ap, refl, ◌⊎◌, inl, inr, subst, take-take}
 use Rattle.std.specs.Option.{option_map, ForSome}
-use Rattle.std.proofs.lemmas.List.{length-take, length-drop, length-append, length-map, take_at, drop_at, take-append-le, length-take-le, drop-drop, drop-take, append_assoc, take-map, drop-map}
+use Rattle.std.proofs.lemmas.List.{length-take, length-drop, length-append, length-map, take_at, drop_at, take-append-le}
+use Rattle.std.proofs.lemmas.List.{length-take-le, drop-drop, drop-take, append_assoc, take-map, drop-map}
 use Rattle.std.proofs.lemmas.List.Elements.{All-take, All-drop}
 use Rattle.std.proofs.lemmas.Slice.{between_is}
 use Rattle.fs_dev.specs.SpillDev.{put_cells, Wrote, LeftOpen, WasWritten, HoldsAt}
@@ -124,11 +126,13 @@ Wrote-same at bytes (Some held) new within is =
     )
 
 -- a write leaves the range open, if no more is said of it
-pub Wrote-LeftOpen : (at : ℕ) (bytes : List ℕ) (old new : Option (List (Option ℕ))) → Wrote at bytes old new → LeftOpen at (length bytes) old new
+pub Wrote-LeftOpen : (at : ℕ) (bytes : List ℕ) (old new : Option (List (Option ℕ))) → Wrote at bytes old new → LeftOpen at (length
+    bytes) old new
 Wrote-LeftOpen at bytes old new is = (map Some bytes, length-map bytes Some, is)
 
 -- a part of what was written was written
-pub WasWritten-part : (at len from n : ℕ) (cells : Option (List (Option ℕ))) → from + n ≤ len → WasWritten at len cells → WasWritten (at + from) n cells
+pub WasWritten-part : (at len from n : ℕ) (cells : Option (List (Option ℕ))) → from + n ≤ len → WasWritten at len cells → WasWritten
+    (at + from) n cells
 WasWritten-part at len from n cells le all x e =
     let whole = all x e in
     let same = slice_range-slice_range x at len from n le in

@@ -1,5 +1,6 @@
 -- What stands in a list that was changed at a place, or has one element more.
-use Rattle.std.proofs.Common.{◌≡◌, ℕ, suc, zero, ◌<◌, List, [], ◌∷◌, ◌++◌, Some, length, set, slice_get, get_or, arith, sym, ap, refl, ◌⊎◌, inl, inr}
+use Rattle.std.proofs.Common.{◌≡◌, ℕ, suc, zero, ◌<◌, List, [], ◌∷◌, ◌++◌, Some, length, set, slice_get, get_or, arith, sym, ap, refl}
+use Rattle.std.proofs.Common.{◌⊎◌, inl, inr}
 use Rattle.std.proofs.lemmas.Option.{slice_get_read}
 
 module _ {X : Type 0} where

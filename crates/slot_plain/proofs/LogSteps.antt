@@ -1,16 +1,21 @@
 -- What the calls of a log do to its table and its device, and to the log that a clause sees.
-use Rattle.std.proofs.Common.{◌≡◌, ◌≢◌, ℕ, ◌+◌, ◌-◌, ◌≤◌, ◌<◌, nat_lt, Bool, true, false, List, Option, Some, None, IfSome, IsSomeAnd, MatchBool, if◌then◌else◌, length, set, slice_range, arith}
+use Rattle.std.proofs.Common.{◌≡◌, ◌≢◌, ℕ, ◌+◌, ◌-◌, ◌≤◌, ◌<◌, nat_lt, Bool, true, false, List, Option, Some, None, IfSome, IsSomeAnd}
+use Rattle.std.proofs.Common.{MatchBool, if◌then◌else◌, length, set, slice_range, arith}
 use Rattle.std.proofs.Common.{sym, ◌∙◌, ap, refl, inl, inr, subst}
 use Rattle.std.specs.Option.{option_map, ForSome, option_and_then}
 use Rattle.std.proofs.lemmas.Bool.{cases_lt, le-ltb, lt-ltb, ltb-true, ltb-false}
 use Rattle.fs_types.specs.Pieces.{Piece}
 use Rattle.fs_types.specs.Faults.{HasRisen, next_count}
 use Rattle.fs_dev.specs.SpillDev.{Wrote, LeftOpen, WasWritten, HoldsAt}
-use Rattle.slot_plain.specs.Slots.{StoredPiece, Slot, free_slot, pinned, released, filled, slot_at, free_slots, held_count, with_taken, bytes_in, HasPieceOf}
+use Rattle.slot_plain.specs.Slots.{StoredPiece, Slot, free_slot, pinned, released, filled, slot_at, free_slots, held_count, with_taken}
+use Rattle.slot_plain.specs.Slots.{bytes_in, HasPieceOf}
 use Rattle.slot_plain.specs.Entries.{Table}
-use Rattle.slot_plain.specs.Log.{DeviceState, Log, spill_place, bytes_from, told_in, told_piece, told_slot, told_slots, log_of, Backs, WroteTo, Fills, FailsToFill}
+use Rattle.slot_plain.specs.Log.{DeviceState, Log, spill_place, bytes_from, told_in, told_piece, told_slot, told_slots, log_of, Backs}
+use Rattle.slot_plain.specs.Log.{WroteTo, Fills, FailsToFill}
 use Rattle.slot_plain.proofs.Cells.{LeftOpen-other, Wrote-same, WasWritten-part, HoldsAt-part}
-use Rattle.slot_plain.proofs.Logs.{slot_at-told, told-set, told-with_taken, free_slots-told, held_count-told, told-released, told-in_memory, told-spilled, told-alike, ranges_apart, place_within, Backs-set, Backs-with_taken, Backs-device, held-within, piece-within}
+use Rattle.slot_plain.proofs.Logs.{slot_at-told, told-set, told-with_taken, free_slots-told, held_count-told, told-released}
+use Rattle.slot_plain.proofs.Logs.{told-in_memory, told-spilled, told-alike, ranges_apart, place_within, Backs-set, Backs-with_taken}
+use Rattle.slot_plain.proofs.Logs.{Backs-device, held-within, piece-within}
 
 -- the log with other slots
 abbrev pub with_slots : Log → List Slot → Log
@@ -180,8 +185,10 @@ module _ (rank : ℕ) (t : Table) (device : DeviceState) (faults : ℕ) (log : L
             (left : LeftOpen (spill_place t.shmem t.chunk n) (length text) device.cells device'.cells) where
           -- each other piece is left as it was
           piece_kept : (m : ℕ) (p : StoredPiece) → t.shmem ≤ m → (slot_at t.slots m).piece ≡ Some p
-              → (bytes_from (spill_place t.shmem t.chunk m) p.len device'.cells ≡ bytes_from (spill_place t.shmem t.chunk m) p.len device.cells)
-              × (WasWritten (spill_place t.shmem t.chunk m) p.len device.cells → WasWritten (spill_place t.shmem t.chunk m) p.len device'.cells)
+              → (bytes_from (spill_place t.shmem t.chunk m) p.len device'.cells ≡ bytes_from (spill_place t.shmem t.chunk m) p.len
+              device.cells)
+              × (WasWritten (spill_place t.shmem t.chunk m) p.len device.cells → WasWritten (spill_place t.shmem t.chunk m) p.len
+              device'.cells)
           piece_kept m p le at =
               let inside = write_inside in
               let le_n = ltb-false n t.shmem behind in
@@ -204,7 +211,8 @@ module _ (rank : ℕ) (t : Table) (device : DeviceState) (faults : ℕ) (log : L
                 ∙ sym (told-in_memory t.shmem t.chunk device.cells m (slot_at t.slots m) lt)
             | inr le ↦
                 ap (λ o. record { count = (slot_at t.slots m).count; piece = o })
-                (mapped_alike (slot_at t.slots m).piece (told_piece t.shmem t.chunk device'.cells m) (told_piece t.shmem t.chunk device.cells m)
+                (mapped_alike (slot_at t.slots m).piece (told_piece t.shmem t.chunk device'.cells m) (told_piece t.shmem t.chunk
+                device.cells m)
                 (λ p at.
                 told-spilled t.shmem t.chunk device'.cells m p le
                 ∙ ap (λ bytes. record { id = p.id; len = p.len; bytes = bytes }) (piece_kept m p le at).0
@@ -230,10 +238,25 @@ module _ (rank : ℕ) (t : Table) (device : DeviceState) (faults : ℕ) (log : L
                     (subst (λ (k : ℕ). LeftOpen (spill_place k t.chunk n) (length text) device.cells device'.cells) mem left));
                 size = size ∙ ap (λ (d : DeviceState). d.size) dev;
                 risen = subst (λ (d : DeviceState). HasRisen d.faults device'.faults) dev risen;
-                rest = ap (λ slots. record { rank = rank; shmem = t.shmem; chunk = t.chunk; slots = slots; device = device'; faults = faults' }) slots_kept
+                rest = ap (λ slots. record {
+                  rank = rank;
+                  shmem = t.shmem;
+                  chunk = t.chunk;
+                  slots = slots;
+                  device = device';
+                  faults =
+                      faults';
+                }) slots_kept
                     ∙ ap (λ f. record { rank = rank; shmem = t.shmem; chunk = t.chunk; slots = log.slots; device = device'; faults = f })
                     (raised ∙ ap next_count count)
-                    ∙ ap (λ (l : Log). record { rank = l.rank; shmem = l.shmem; chunk = l.chunk; slots = log.slots; device = device'; faults = next_count log.faults }) is;
+                    ∙ ap (λ (l : Log). record {
+                      rank = l.rank;
+                      shmem = l.shmem;
+                      chunk = l.chunk;
+                      slots = log.slots;
+                      device = device';
+                      faults = next_count log.faults;
+                    }) is;
               }
 
           -- the write went well
@@ -257,7 +280,8 @@ module _ (rank : ℕ) (t : Table) (device : DeviceState) (faults : ℕ) (log : L
                   λ le. subst (λ (q : StoredPiece). WasWritten (spill_place t.shmem t.chunk n) q.len device'.cells) same there.1,
                 )))
 
-            told_now : told_slot t.shmem t.chunk device'.cells n (filled (record { id = id; len = length text; bytes = Some other }) (slot_at t.slots n))
+            told_now : told_slot t.shmem t.chunk device'.cells n (filled (record { id = id; len = length text; bytes = Some other })
+                (slot_at t.slots n))
                 ≡ filled (record { id = id; len = length text; bytes = told_in log n text }) (slot_at log.slots n)
             told_now =
                 let piece : StoredPiece = record { id = id; len = length text; bytes = Some other } in
@@ -269,7 +293,8 @@ module _ (rank : ℕ) (t : Table) (device : DeviceState) (faults : ℕ) (log : L
                 ap (λ p. record { count = (slot_at t.slots n).count; piece = Some p })
                 (told-spilled t.shmem t.chunk device'.cells n piece le
                 ∙ ap (λ b. record { id = id; len = length text; bytes = b }) (there.0 ∙ bytes))
-                ∙ ap (λ c. record { count = c; piece = Some (record { id = id; len = length text; bytes = told_in log n text }) }) (count_is n)
+                ∙ ap (λ c. record { count = c; piece = Some (record { id = id; len = length text; bytes = told_in log n text }) })
+                (count_is n)
 
             pub wrote_log : Fills n id text log (log_of rank now device' faults)
             wrote_log =
@@ -282,18 +307,29 @@ module _ (rank : ℕ) (t : Table) (device : DeviceState) (faults : ℕ) (log : L
                 let dev : device ≡ log.device = ap (λ (l : Log). l.device) is in
                 let le = ltb-false n t.shmem behind in
                 let out : nat_lt n log.shmem ≡ false = le-ltb n log.shmem (omega arith) in
-                let whole : List Slot = set log.slots n (filled (record { id = id; len = length text; bytes = told_in log n text }) (slot_at log.slots n)) in
+                let whole : List Slot = set log.slots n (filled (record { id = id; len = length text; bytes = told_in log n text })
+                (slot_at log.slots n)) in
                 let to : WroteTo (spill_place log.shmem log.chunk n) text log.device device' = record {
                   bytes = subst (λ (d : DeviceState). Wrote (spill_place log.shmem log.chunk n) text d.cells device'.cells) dev
                       (subst (λ (k : ℕ). Wrote (spill_place log.shmem k n) text device.cells device'.cells) bytes
                       (subst (λ (k : ℕ). Wrote (spill_place k t.chunk n) text device.cells device'.cells) mem wrote));
-                  rest = ap (λ s. record { size = s; cells = device'.cells; faults = device'.faults }) (size ∙ ap (λ (d : DeviceState). d.size) dev)
-                      ∙ ap (λ f. record { size = log.device.size; cells = device'.cells; faults = f }) (calm ∙ ap (λ (d : DeviceState). d.faults) dev);
+                  rest = ap (λ s. record { size = s; cells = device'.cells; faults = device'.faults }) (size ∙ ap (λ (d : DeviceState).
+                      d.size) dev)
+                      ∙ ap (λ f. record { size = log.device.size; cells = device'.cells; faults = f }) (calm ∙ ap (λ (d : DeviceState).
+                      d.faults) dev);
                 } in
                 fills_from n id text log (log_of rank now device' faults) device'
                 (ap (λ x. log_of rank x device' faults) does
                 ∙ ap (λ xs. record { rank = rank; shmem = t.shmem; chunk = t.chunk; slots = xs; device = device'; faults = faults }) slots
-                ∙ ap (λ (l : Log). record { rank = l.rank; shmem = l.shmem; chunk = l.chunk; slots = whole; device = device'; faults = l.faults }) is)
+                ∙ ap (λ (l : Log). record {
+                  rank = l.rank;
+                  shmem = l.shmem;
+                  chunk = l.chunk;
+                  slots = whole;
+                  device = device';
+                  faults =
+                      l.faults;
+                }) is)
                 (rw out to)
 
     -- ---- a piece that is read

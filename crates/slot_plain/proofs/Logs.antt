@@ -1,5 +1,6 @@
 -- The slots of a log, as its table has them and as its device tells their bytes.
-use Rattle.std.proofs.Common.{◌≡◌, ◌≢◌, ℕ, suc, zero, ◌+◌, ◌-◌, ◌*◌, ◌≤◌, ◌<◌, ◌==◌, nat_lt, Bool, true, false, List, [], ◌∷◌, Option, Some, None, IfSome, length, set, map, replicate, if◌then◌else◌, arith}
+use Rattle.std.proofs.Common.{◌≡◌, ◌≢◌, ℕ, suc, zero, ◌+◌, ◌-◌, ◌*◌, ◌≤◌, ◌<◌, ◌==◌, nat_lt, Bool, true, false, List, [], ◌∷◌, Option}
+use Rattle.std.proofs.Common.{Some, None, IfSome, length, set, map, replicate, if◌then◌else◌, arith}
 use Rattle.std.proofs.Common.{sym, ◌∙◌, ap, refl, ◌⊎◌, inl, inr, subst}
 use Rattle.std.specs.Option.{option_map, ForSome}
 use Rattle.std.proofs.lemmas.Bool.{cases_order, le-ltb, lt-ltb}
@@ -7,7 +8,8 @@ use Rattle.std.proofs.lemmas.List.{length-set}
 use Rattle.std.proofs.lemmas.List.Sums.{sum_by-cons}
 use Rattle.fs_dev.specs.SpillDev.{WasWritten}
 use Rattle.slot_plain.specs.FreePlaces.{free_places}
-use Rattle.slot_plain.specs.Slots.{StoredPiece, Slot, free_slot, taken_slot, released, is_free, is_held, slot_at, free_slots, held_count, with_taken}
+use Rattle.slot_plain.specs.Slots.{StoredPiece, Slot, free_slot, taken_slot, released, is_free, is_held, slot_at, free_slots}
+use Rattle.slot_plain.specs.Slots.{held_count, with_taken}
 use Rattle.slot_plain.specs.Entries.{Table}
 use Rattle.slot_plain.specs.Log.{DeviceState, spill_place, bytes_from, told_piece, told_slot, told_slots, Backs}
 

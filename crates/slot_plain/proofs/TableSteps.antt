@@ -1,19 +1,22 @@
 -- What the calls of a table of slots do to its entries, and to the table that a clause sees.
-use Rattle.std.proofs.Common.{◌≡◌, ◌≢◌, ℕ, ◌+◌, ◌-◌, ◌≤◌, ◌<◌, ◌==◌, Bool, true, false, List, [], ◌∷◌, ◌++◌, Some, None, length, set, slice_get, get_or, map, replicate, take, drop, slice_range, Option, IfSome, Vec, Global, take-take, arith}
+use Rattle.std.proofs.Common.{◌≡◌, ◌≢◌, ℕ, ◌+◌, ◌-◌, ◌≤◌, ◌<◌, ◌==◌, Bool, true, false, List, [], ◌∷◌, ◌++◌, Some, None, length, set}
+use Rattle.std.proofs.Common.{slice_get, get_or, map, replicate, take, drop, slice_range, Option, IfSome, Vec, Global, take-take, arith}
 use Rattle.std.proofs.Common.{sym, ◌∙◌, ap, refl, inl, inr, subst}
 use Rattle.std.proofs.lemmas.Bool.{eq-eqb, ne_eqb, eqb-true, cases_eq}
 use Rattle.std.proofs.lemmas.List.{length-set, length-map, length-append}
 use Rattle.std.proofs.lemmas.Option.{slice_get_within, slice_get-map, slice_get_cases}
 use Rattle.std.specs.Option.{option_map}
 use Rattle.slot_plain.specs.FreePlaces.{free_places, free_from}
-use Rattle.slot_plain.specs.Slots.{Slot, free_slot, taken_slot, pinned, released, filled, bytes_in, HasPieceOf, slot_at, free_slots, is_free, with_taken}
+use Rattle.slot_plain.specs.Slots.{Slot, free_slot, taken_slot, pinned, released, filled, bytes_in, HasPieceOf, slot_at, free_slots}
+use Rattle.slot_plain.specs.Slots.{is_free, with_taken}
 use Rattle.slot_plain.specs.Entries.{Table, table_of, entry_slot, slots_of, is_unheld, IsEntry, AreEntries}
 use Rattle.slot_plain.specs.declared.entry.Entry.{Entry}
 use Rattle.slot_plain.specs.declared.entry.FilledPiece.{FilledPiece}
 use Rattle.std.proofs.lemmas.Slice.{between_is}
 use Rattle.slot_plain.proofs.Lists.{slice_get-read, set-same}
 use Rattle.slot_plain.proofs.FreeLists.{length-free_from-le}
-use Rattle.slot_plain.proofs.Tables.{slot_at-entry, slot_at-none, held-has_entry, slots_of-set, slots_of-push, free_slots-slots_of, length-slots_of, AreEntries-set, AreEntries-push, length-flags, free_flags}
+use Rattle.slot_plain.proofs.Tables.{slot_at-entry, slot_at-none, held-has_entry, slots_of-set, slots_of-push, free_slots-slots_of}
+use Rattle.slot_plain.proofs.Tables.{length-slots_of, AreEntries-set, AreEntries-push, length-flags, free_flags}
 
 -- the table with another slot at a number
 abbrev pub with_slot : Table → ℕ → Slot → Table
@@ -117,7 +120,11 @@ module _ (shmem chunk total : ℕ) (free : List Bool) (entries : List Entry) (ar
       freed : Entry
       freed = record { count = now.count - 1; piece = None; buffer = now.buffer }
 
-      pub freed-entries : AreEntries shmem chunk total (set free n true) (set entries n (record { count = now.count - 1; piece = None; buffer = now.buffer }))
+      pub freed-entries : AreEntries shmem chunk total (set free n true) (set entries n (record {
+        count = now.count - 1;
+        piece = None;
+        buffer = now.buffer;
+      }))
       freed-entries =
           let old = are.each n now entry_at in
           let e : Entry = record { count = now.count - 1; piece = None; buffer = now.buffer } in
@@ -134,7 +141,12 @@ module _ (shmem chunk total : ℕ) (free : List Bool) (entries : List Entry) (ar
 
     -- something else holds it
     module _ (held : 0 < (slot_at table.slots n).count) (more : now.count - 1 ≢ 0) where
-      pub lowered-entries : AreEntries shmem chunk total free (set entries n (record { count = now.count - 1; piece = now.piece; buffer = now.buffer }))
+      pub lowered-entries : AreEntries shmem chunk total free (set entries n (record {
+        count = now.count - 1;
+        piece = now.piece;
+        buffer
+            = now.buffer;
+      }))
       lowered-entries =
           let old = are.each n now entry_at in
           let before : is_unheld now ≡ false = ne_eqb _ _ (λ none. absurd (omega arith)) in
@@ -142,7 +154,12 @@ module _ (shmem chunk total : ℕ) (free : List Bool) (entries : List Entry) (ar
           kept (record { count = now.count - 1; piece = now.piece; buffer = now.buffer }) (after ∙ sym before)
           (record { buffer = old.buffer; piece = old.piece; free = λ none. absurd (more none) })
 
-      pub lowered-table : table_of shmem chunk total (set entries n (record { count = now.count - 1; piece = now.piece; buffer = now.buffer }))
+      pub lowered-table : table_of shmem chunk total (set entries n (record {
+        count = now.count - 1;
+        piece = now.piece;
+        buffer =
+            now.buffer;
+      }))
           ≡ with_slot table n (released (slot_at table.slots n))
       lowered-table =
           let count = ap (λ (s : Slot). s.count) slot_is in
@@ -209,7 +226,12 @@ module _ (shmem chunk total : ℕ) (free : List Bool) (entries : List Entry) (ar
       no_piece : now.piece ≡ None
       no_piece = (are.each n now entry_at).free none_holds
 
-      pub taken-entries : AreEntries shmem chunk total free_again (set entries n (record { count = 1; piece = now.piece; buffer = now.buffer }))
+      pub taken-entries : AreEntries shmem chunk total free_again (set entries n (record {
+        count = 1;
+        piece = now.piece;
+        buffer =
+            now.buffer;
+      }))
       taken-entries =
           let old = are.each n now entry_at in
           let e : Entry = record { count = 1; piece = now.piece; buffer = now.buffer } in
@@ -263,7 +285,13 @@ module _ (shmem chunk total : ℕ) (free : List Bool) (entries : List Entry) (ar
         (record { buffer = buffer; piece = λ p is. cc; free = λ _. piece })
 
     pub made-table : (made : ℕ) → length (entries ++ e ∷ []) ≡ made
-        → table_of shmem chunk total (entries ++ e ∷ []) ≡ record { shmem = table.shmem; chunk = table.chunk; made = made; slots = table.slots }
+        → table_of shmem chunk total (entries ++ e ∷ []) ≡ record {
+          shmem = table.shmem;
+          chunk = table.chunk;
+          made = made;
+          slots =
+              table.slots;
+        }
     made-table made size =
         let free_one : entry_slot e ≡ free_slot = rw (count, piece) refl in
         ap (λ m. record { shmem = shmem; chunk = chunk; made = m; slots = slots_of (entries ++ e ∷ []) total }) size

@@ -1,9 +1,12 @@
 -- Slots of entries: what a change of an entry is to the slots.
-use Rattle.std.proofs.Common.{◌≡◌, ℕ, suc, zero, ◌+◌, ◌-◌, ◌≤◌, ◌<◌, Bool, true, false, List, [], ◌∷◌, ◌++◌, Some, length, set, slice_get, map, replicate, arith}
+use Rattle.std.proofs.Common.{◌≡◌, ℕ, suc, zero, ◌+◌, ◌-◌, ◌≤◌, ◌<◌, Bool, true, false, List, [], ◌∷◌, ◌++◌, Some, length, set}
+use Rattle.std.proofs.Common.{slice_get, map, replicate, arith}
 use Rattle.std.proofs.Common.{sym, ◌∙◌, ap, refl, inl, inr, subst, count_by, if◌then◌else◌}
 use Rattle.std.proofs.lemmas.Bool.{cases_lt, cases_eq, eq-eqb, ne_eqb, lt-ltb, le-ltb}
 use Rattle.std.proofs.lemmas.List.Sums.{sum_by-append, sum_by-cons}
-use Rattle.std.proofs.lemmas.List.{length-set, length-append, length-map, length-replicate, map-set, map-append, set-append_left, get_or_append_left, get_or-append_right, get_or_past, get_or-replicate, get_or-map, append_assoc, length_push, map_push}
+use Rattle.std.proofs.lemmas.List.{length-set, length-append, length-map, length-replicate, map-set, map-append, set-append_left}
+use Rattle.std.proofs.lemmas.List.{get_or_append_left, get_or-append_right, get_or_past, get_or-replicate, get_or-map, append_assoc}
+use Rattle.std.proofs.lemmas.List.{length_push, map_push}
 use Rattle.std.proofs.lemmas.Option.{slice_get_within, get_or_from_slice_get, slice_get_cases}
 use Rattle.slot_plain.specs.FreePlaces.{free_from, free_places}
 use Rattle.slot_plain.specs.Slots.{Slot, free_slot, is_free, is_held, slot_at, free_slots, held_count}
@@ -143,7 +146,8 @@ module _ (entries : List Entry) (total : ℕ) where
   length-free_slots =
       ap (λ flags. length (free_places flags)) flags_of_slots
       ∙ ap length (free_from-append 0 (map is_unheld entries) (replicate (total - length entries) true))
-      ∙ length-append (free_places (map is_unheld entries)) (free_from (0 + length (map is_unheld entries)) (replicate (total - length entries) true))
+      ∙ length-append (free_places (map is_unheld entries)) (free_from (0 + length (map is_unheld entries)) (replicate (total - length
+      entries) true))
       ∙ ap (λ m. length (free_places (map is_unheld entries)) + m)
       (length-free_from-replicate (0 + length (map is_unheld entries)) (total - length entries))
 
@@ -165,8 +169,11 @@ module _ (shmem chunk total : ℕ) (free : List Bool) (entries : List Entry) (ar
   pub free_flags : (length (free_places free) ≤ length entries)
       × (length (free_slots (slots_of entries total)) ≡ length (free_places free) + (total - length entries))
   free_flags =
-      let le = length-free_from-le 0 free in
-      (omega (arith, le, length-flags), length-free_slots entries total ∙ ap (λ flags. length (free_places flags) + (total - length entries)) (sym are.flags))
+      let le = length-free_from-le 0 free in (
+        omega (arith, le, length-flags),
+        length-free_slots entries total ∙ ap (λ flags. length (free_places flags) + (total - length
+            entries)) (sym are.flags),
+      )
 
   -- the flags that are set, and the slots that are held
   pub held_flags : held_count (slots_of entries total) + length (free_places free) ≡ length entries

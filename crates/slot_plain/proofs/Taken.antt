@@ -1,5 +1,6 @@
 -- Slots that were taken: as many as were wanted, each held once, and the others as they were.
-use Rattle.std.proofs.Common.{◌≡◌, ℕ, suc, zero, ◌+◌, ◌≤◌, ◌<◌, Bool, true, false, All, Contains, List, [], ◌∷◌, length, get_or, take, map, set, min, arith, sym, ◌∙◌, ap, refl, ◌⊎◌, inl, inr, subst}
+use Rattle.std.proofs.Common.{◌≡◌, ℕ, suc, zero, ◌+◌, ◌≤◌, ◌<◌, Bool, true, false, All, Contains, List, [], ◌∷◌, length, get_or, take}
+use Rattle.std.proofs.Common.{map, set, min, arith, sym, ◌∙◌, ap, refl, ◌⊎◌, inl, inr, subst}
 use Rattle.std.proofs.lemmas.List.{length-take, length-map, length-set}
 use Rattle.std.proofs.lemmas.List.Elements.{All-take}
 use Rattle.slot_plain.specs.FreePlaces.{free_from}
@@ -18,7 +19,8 @@ free_slots-within slots k d lt =
     let h = free_from-within 0 (map is_free slots) k d lt in omega (arith, h, length-map slots is_free)
 
 -- a slot that was taken stays so
-with_taken-keeps : (numbers : List ℕ) (slots : List Slot) (m : ℕ) → slot_at slots m ≡ taken_slot → slot_at (with_taken numbers slots) m ≡ taken_slot
+with_taken-keeps : (numbers : List ℕ) (slots : List Slot) (m : ℕ) → slot_at slots m ≡ taken_slot → slot_at (with_taken numbers slots) m
+    ≡ taken_slot
 with_taken-keeps [] slots m is = is
 with_taken-keeps (n ∷ numbers) slots m is = with_taken-keeps numbers (set slots n taken_slot) m (elim (slot_at-set slots n taken_slot m) [
   | inl here ↦ here.1

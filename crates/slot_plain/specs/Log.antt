@@ -1,5 +1,6 @@
 -- A client's log: its slots, and the device that has the bytes of those behind shared memory.
-use Rattle.std.specs.Prelude.{◌≡◌, ℕ, suc, ◌+◌, ◌-◌, ◌*◌, ◌≤◌, nat_lt, List, [], ◌∷◌, length, map, Option, Some, slice_range, slice_set, unwrap_or, MatchBool, if◌then◌else◌}
+use Rattle.std.specs.Prelude.{◌≡◌, ℕ, suc, ◌+◌, ◌-◌, ◌*◌, ◌≤◌, nat_lt, List, [], ◌∷◌, length, map, Option, Some, slice_range, slice_set}
+use Rattle.std.specs.Prelude.{unwrap_or, MatchBool, if◌then◌else◌}
 use Rattle.std.specs.Option.{option_map}
 use Rattle.fs_types.specs.Pieces.{Piece}
 use Rattle.fs_types.specs.Faults.{HasRisen, next_count}

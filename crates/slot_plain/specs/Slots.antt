@@ -1,5 +1,6 @@
 -- The slots of a client's log: how often each is held, and the piece that it has.
-use Rattle.std.specs.Prelude.{ℕ, ◌+◌, ◌-◌, ◌≤◌, option_and_then, IsSomeAnd, ◌==◌, nat_lt, Bool, List, map, count_by, fold, Option, Some, None, slice_set, slice_index_or, if◌then◌else◌}
+use Rattle.std.specs.Prelude.{ℕ, ◌+◌, ◌-◌, ◌≤◌, option_and_then, IsSomeAnd, ◌==◌, nat_lt, Bool, List, map, count_by, fold, Option, Some}
+use Rattle.std.specs.Prelude.{None, slice_set, slice_index_or, if◌then◌else◌}
 use Rattle.fs_types.specs.Pieces.{Piece}
 use Rattle.slot_plain.specs.FreePlaces.{free_places}
 

@@ -174,4 +174,12 @@ impl<D: SpillDev + Drop> PlainLog<D> {
         let place = self.table.spill_place(slot, from);
         read_counted(&mut self.dev, place, out, self.rank, &mut self.faults)
     }
+
+    /// The log's device, as it is. It takes no memory.
+    pub fn into_device(self) -> D
+        ensures { record { size = D.size result; cells = D.cells result; faults = D.faults result }
+            ≡ self.device }
+    {
+        self.dev
+    }
 }

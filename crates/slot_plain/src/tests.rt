@@ -143,6 +143,7 @@ fn a_device_that_fails_is_counted(rt: HostRuntime) -> Result<(), Fail> {
     assert_eq!(rt; log.fill(slots[0], part(0), b"lost"), Err(fault));
     assert_eq!(rt; log.line().faults, 1);
     assert_eq!(rt; (log.count(0), log.count(1)), (1, 0));
+    let _dev = log.into_device();
     Ok(())
 }
 

@@ -35,7 +35,8 @@ invariant_of-self-2 g c =
     let i = c.self.inside in
     taken_backs i.rank i.table
     (record { size = g.D.SpillDev.size i.dev; cells = g.D.SpillDev.cells i.dev; faults = g.D.SpillDev.faults i.dev })
-    i.faults c.args.self.now c.self.view_is c.self.invariant c.in_ok-take.field-0.items c.take.new.self.made c.take.new.self c.in_ok-take.ensures.taken
+    i.faults c.args.self.now c.self.view_is c.self.invariant c.in_ok-take.field-0.items c.take.new.self.made c.take.new.self
+    c.in_ok-take.ensures.taken
 
 pub returns-clause-lowest : goal.returns-clause-lowest
 returns-clause-lowest g c =
@@ -54,7 +55,8 @@ returns-clause-taken g c =
 pub returns-clause-many : goal.returns-clause-many
 returns-clause-many g c =
     let i = c.self.inside in
-    taken-many c.args.self.now.slots c.args.k c.in_ok-take.field-0.items (c.in_ok-take.ensures.lowest ∙ ap (take c.args.k) (free_is i.rank i.table
+    taken-many c.args.self.now.slots c.args.k c.in_ok-take.field-0.items (c.in_ok-take.ensures.lowest ∙ ap (take c.args.k) (free_is
+    i.rank i.table
     (record { size = g.D.SpillDev.size i.dev; cells = g.D.SpillDev.cells i.dev; faults = g.D.SpillDev.faults i.dev })
     i.faults c.args.self.now c.self.view_is))
     (let free = c.free_count-free.ensures ∙ ap length (free_is i.rank i.table
@@ -64,20 +66,24 @@ returns-clause-many g c =
 pub returns-clause-each : goal.returns-clause-each
 returns-clause-each g c =
     let i = c.self.inside in
-    subst (λ (slots : List Slot). All (λ n. slot_at slots n ≡ taken_slot) c.in_ok-take.field-0.items) (sym (ap (λ (l : Log). l.slots) (taken_log i.rank i.table
+    subst (λ (slots : List Slot). All (λ n. slot_at slots n ≡ taken_slot) c.in_ok-take.field-0.items) (sym (ap (λ (l : Log). l.slots)
+    (taken_log i.rank i.table
     (record { size = g.D.SpillDev.size i.dev; cells = g.D.SpillDev.cells i.dev; faults = g.D.SpillDev.faults i.dev })
     i.faults c.args.self.now c.self.view_is c.in_ok-take.field-0.items c.take.new.self.made c.take.new.self c.in_ok-take.ensures.taken)))
-    (taken-each c.args.self.now.slots c.args.k c.in_ok-take.field-0.items (c.in_ok-take.ensures.lowest ∙ ap (take c.args.k) (free_is i.rank i.table
+    (taken-each c.args.self.now.slots c.args.k c.in_ok-take.field-0.items (c.in_ok-take.ensures.lowest ∙ ap (take c.args.k) (free_is
+    i.rank i.table
     (record { size = g.D.SpillDev.size i.dev; cells = g.D.SpillDev.cells i.dev; faults = g.D.SpillDev.faults i.dev })
     i.faults c.args.self.now c.self.view_is)))
 
 pub returns-clause-others : goal.returns-clause-others
 returns-clause-others g c =
     let i = c.self.inside in
-    λ n none. subst (λ (slots : List Slot). slot_at slots n ≡ slot_at c.args.self.now.slots n) (sym (ap (λ (l : Log). l.slots) (taken_log i.rank i.table
+    λ n none. subst (λ (slots : List Slot). slot_at slots n ≡ slot_at c.args.self.now.slots n) (sym (ap (λ (l : Log). l.slots)
+    (taken_log i.rank i.table
     (record { size = g.D.SpillDev.size i.dev; cells = g.D.SpillDev.cells i.dev; faults = g.D.SpillDev.faults i.dev })
     i.faults c.args.self.now c.self.view_is c.in_ok-take.field-0.items c.take.new.self.made c.take.new.self c.in_ok-take.ensures.taken)))
-    (taken-others c.args.self.now.slots c.args.k c.in_ok-take.field-0.items (c.in_ok-take.ensures.lowest ∙ ap (take c.args.k) (free_is i.rank i.table
+    (taken-others c.args.self.now.slots c.args.k c.in_ok-take.field-0.items (c.in_ok-take.ensures.lowest ∙ ap (take c.args.k) (free_is
+    i.rank i.table
     (record { size = g.D.SpillDev.size i.dev; cells = g.D.SpillDev.cells i.dev; faults = g.D.SpillDev.faults i.dev })
     i.faults c.args.self.now c.self.view_is)) n none)
 

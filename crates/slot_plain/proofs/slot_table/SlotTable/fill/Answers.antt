@@ -7,8 +7,10 @@ use Rattle.slot_plain.proofs.slot_table.SlotTable.fill.Goals as goal
 pub put_first-requires : goal.put_first-requires
 put_first-requires c =
     let i = c.self.inside in
-    let size = buffer_size i.shmem i.chunk i.total i.free i.entries.items c.self.invariant c.args.self.now c.self.view_is c.args.slot c.index_mut-entry.result.now
-    (entry_of_held i.shmem i.chunk i.total i.free i.entries.items c.self.invariant c.args.self.now c.self.view_is c.args.slot c.requires.taken)
+    let size = buffer_size i.shmem i.chunk i.total i.free i.entries.items c.self.invariant c.args.self.now c.self.view_is c.args.slot
+    c.index_mut-entry.result.now
+    (entry_of_held i.shmem i.chunk i.total i.free i.entries.items c.self.invariant c.args.self.now c.self.view_is c.args.slot
+    c.requires.taken)
     c.index_mut-entry.ensures.value c.requires.in_memory in
     let whole = ap length c.deref_mut.ensures.value in
     omega (arith, size, whole, c.requires.fits)
@@ -21,11 +23,15 @@ invariant_of-self c =
     let whole = ap length c.deref_mut.ensures.value in
     let same : length ws ≡ v.len = omega (arith, c.put_first.auto.all, whole, v.ok.0) in
     let items = with_items_is v ws same in
-    let size = buffer_size i.shmem i.chunk i.total i.free i.entries.items c.self.invariant c.args.self.now c.self.view_is c.args.slot c.index_mut-entry.result.now
-    (entry_of_held i.shmem i.chunk i.total i.free i.entries.items c.self.invariant c.args.self.now c.self.view_is c.args.slot c.requires.taken)
+    let size = buffer_size i.shmem i.chunk i.total i.free i.entries.items c.self.invariant c.args.self.now c.self.view_is c.args.slot
+    c.index_mut-entry.result.now
+    (entry_of_held i.shmem i.chunk i.total i.free i.entries.items c.self.invariant c.args.self.now c.self.view_is c.args.slot
+    c.requires.taken)
     c.index_mut-entry.ensures.value c.requires.in_memory in
-    filled-entries i.shmem i.chunk i.total i.free i.entries.items c.self.invariant c.args.self.now c.self.view_is c.args.slot c.index_mut-entry.result.now
-    (entry_of_held i.shmem i.chunk i.total i.free i.entries.items c.self.invariant c.args.self.now c.self.view_is c.args.slot c.requires.taken)
+    filled-entries i.shmem i.chunk i.total i.free i.entries.items c.self.invariant c.args.self.now c.self.view_is c.args.slot
+    c.index_mut-entry.result.now
+    (entry_of_held i.shmem i.chunk i.total i.free i.entries.items c.self.invariant c.args.self.now c.self.view_is c.args.slot
+    c.requires.taken)
     c.index_mut-entry.ensures.value c.requires.taken (record { id = c.args.id; len = length c.args.b.now }) (with_items v ws)
     c.requires.fits (λ _. ap length items ∙ omega (arith, same, size, v.ok.0))
 
@@ -37,7 +43,9 @@ returns c =
     let whole = ap length c.deref_mut.ensures.value in
     let same : length ws ≡ v.len = omega (arith, c.put_first.auto.all, whole, v.ok.0) in
     let items = with_items_is v ws same in
-    filled-table i.shmem i.chunk i.total i.free i.entries.items c.self.invariant c.args.self.now c.self.view_is c.args.slot c.index_mut-entry.result.now
-    (entry_of_held i.shmem i.chunk i.total i.free i.entries.items c.self.invariant c.args.self.now c.self.view_is c.args.slot c.requires.taken)
+    filled-table i.shmem i.chunk i.total i.free i.entries.items c.self.invariant c.args.self.now c.self.view_is c.args.slot
+    c.index_mut-entry.result.now
+    (entry_of_held i.shmem i.chunk i.total i.free i.entries.items c.self.invariant c.args.self.now c.self.view_is c.args.slot
+    c.requires.taken)
     c.index_mut-entry.ensures.value c.requires.taken (record { id = c.args.id; len = length c.args.b.now }) (with_items v ws)
     c.args.b.now (ap (take (length c.args.b.now)) items ∙ c.put_first.ensures)

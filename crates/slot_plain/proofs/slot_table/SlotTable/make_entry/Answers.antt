@@ -12,7 +12,11 @@ invariant_of-self-2 c =
     let flags = c.in_ok-add.ensures.ok in
     rw (items, flags)
     (made-entries i.shmem i.chunk i.total i.free i.entries.items c.self.invariant c.args.self.now c.self.view_is e c.requires refl
-    refl (λ lt. let size : length c.in_ok-buffer.buffer.items ≡ c.if-in_memory.bytes = omega (arith, c.in_ok-buffer.buffer.ok.0, c.in_ok-buffer.ensures.len) in
+    refl (λ lt. let size : length c.in_ok-buffer.buffer.items ≡ c.if-in_memory.bytes = omega (
+      arith,
+      c.in_ok-buffer.buffer.ok.0,
+      c.in_ok-buffer.ensures.len,
+    ) in
     elim c.if-in_memory.branch [
       | then-in_memory w ↦ omega (arith, size)
       | else-in_memory w ↦ omega (arith, i.entries.ok.0, lt)
@@ -25,7 +29,11 @@ returns-clause-rest c =
     let items = c.push_reserved.ensures.items ∙ ap (λ (es : List Entry). es ++ e ∷ []) c.reserve.ensures.items in
     rw items
     (made-table i.shmem i.chunk i.total i.free i.entries.items c.self.invariant c.args.self.now c.self.view_is e c.requires refl
-    refl (λ lt. let size : length c.in_ok-buffer.buffer.items ≡ c.if-in_memory.bytes = omega (arith, c.in_ok-buffer.buffer.ok.0, c.in_ok-buffer.ensures.len) in
+    refl (λ lt. let size : length c.in_ok-buffer.buffer.items ≡ c.if-in_memory.bytes = omega (
+      arith,
+      c.in_ok-buffer.buffer.ok.0,
+      c.in_ok-buffer.ensures.len,
+    ) in
     elim c.if-in_memory.branch [
       | then-in_memory w ↦ omega (arith, size)
       | else-in_memory w ↦ omega (arith, i.entries.ok.0, lt)

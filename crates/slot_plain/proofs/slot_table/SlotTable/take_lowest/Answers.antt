@@ -18,14 +18,16 @@ pub invariant_of-self : goal.invariant_of-self
 invariant_of-self c =
     let i = c.self.inside in
     taken-entries i.shmem i.chunk i.total i.free i.entries.items c.self.invariant c.args.self.now c.self.view_is c.take_lowest-slot.result
-    c.index_mut.result.now (flag_within i.shmem i.chunk i.total i.free i.entries.items c.self.invariant c.take_lowest-slot.result _ c.take_lowest-slot.ensures.free) c.index_mut.ensures.value
+    c.index_mut.result.now (flag_within i.shmem i.chunk i.total i.free i.entries.items c.self.invariant c.take_lowest-slot.result _
+    c.take_lowest-slot.ensures.free) c.index_mut.ensures.value
     c.take_lowest-slot.new.self c.take_lowest-slot.ensures.free c.take_lowest-slot.ensures.taken
 
 pub returns-clause-lowest : goal.returns-clause-lowest
 returns-clause-lowest c =
     let i = c.self.inside in
     taken-lowest i.shmem i.chunk i.total i.free i.entries.items c.self.invariant c.args.self.now c.self.view_is c.take_lowest-slot.result
-    c.index_mut.result.now (flag_within i.shmem i.chunk i.total i.free i.entries.items c.self.invariant c.take_lowest-slot.result _ c.take_lowest-slot.ensures.free) c.index_mut.ensures.value
+    c.index_mut.result.now (flag_within i.shmem i.chunk i.total i.free i.entries.items c.self.invariant c.take_lowest-slot.result _
+    c.take_lowest-slot.ensures.free) c.index_mut.ensures.value
     c.take_lowest-slot.new.self c.take_lowest-slot.ensures.free c.take_lowest-slot.ensures.taken
     c.take_lowest-slot.ensures.lowest
 
@@ -33,5 +35,6 @@ pub returns-clause-taken : goal.returns-clause-taken
 returns-clause-taken c =
     let i = c.self.inside in
     taken-table i.shmem i.chunk i.total i.free i.entries.items c.self.invariant c.args.self.now c.self.view_is c.take_lowest-slot.result
-    c.index_mut.result.now (flag_within i.shmem i.chunk i.total i.free i.entries.items c.self.invariant c.take_lowest-slot.result _ c.take_lowest-slot.ensures.free) c.index_mut.ensures.value
+    c.index_mut.result.now (flag_within i.shmem i.chunk i.total i.free i.entries.items c.self.invariant c.take_lowest-slot.result _
+    c.take_lowest-slot.ensures.free) c.index_mut.ensures.value
     c.take_lowest-slot.new.self c.take_lowest-slot.ensures.free c.take_lowest-slot.ensures.taken
