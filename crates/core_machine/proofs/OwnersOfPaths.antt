@@ -2,7 +2,8 @@
 use Rattle.fs_types.proofs.Common.{◌≡◌, ℕ, ◌+◌, ◌<◌, ◌≤◌, ◌⊎◌, Bool, true, false, ◌&&◌, cond, if◌then◌else◌, List, length, set, slice_get}
 use Rattle.fs_types.proofs.Common.{Option, Some, nat_eq, nat_lt, bytes_eq, refl, sym, ap, subst, ◌∙◌, inl, inr, arith}
 use Rattle.fs_types.proofs.Common.{Contains, take, [], ◌∷◌, ◌++◌, true≢false, get_or_from_slice_get, take_more}
-use Rattle.fs_types.proofs.Common.{cases_eq, cases_lt, lt-ltb, le-ltb, bytes_eq-Decides, eq-eqb, length-set, slice_get_within, false_from_ne_true}
+use Rattle.fs_types.proofs.Common.{cases_eq, cases_lt, lt-ltb, le-ltb, bytes_eq-Decides, eq-eqb, length-set, slice_get_within}
+use Rattle.fs_types.proofs.Common.{false_from_ne_true}
 use Rattle.std.proofs.lemmas.List.Elements.{Contains-push_cases}
 use Rattle.std.specs.Option.{option_map}
 use Rattle.placement.specs.Placement.{gfid, owner}
@@ -33,7 +34,8 @@ at_home old new p q x changes = by (bytes_eq q p) refl
 
 -- one server's change of a path that it owns is the servers'
 pub ChangesPath-from_file : (owners : List OwnerFiles) (p : List ℕ) (old new : OwnerFiles) (x : OwnedPath)
-    → slice_get owners (home owners p) ≡ Some old → ChangesFile old new (gfid p) p x → ChangesPath owners (set owners (home owners p) new) p x
+    → slice_get owners (home owners p) ≡ Some old → ChangesFile old new (gfid p) p x → ChangesPath owners (set owners (home owners p)
+    new) p x
 ChangesPath-from_file owners p old new x is changes = record {
   sized = length-set owners (home owners p) new;
   changes = λ q. ap (λ n. file_at (slice_get (set owners (home owners p) new) (owner (gfid q) n)) q) (length-set owners (home owners p) new)
@@ -49,12 +51,14 @@ ChangesPath-from_file owners p old new x is changes = record {
         ∙ at_home old new p q x changes
         ∙ ap (λ o. if bytes_eq q p then Some x else file_at o q) (sym is ∙ ap (slice_get owners) (sym same))
     by q (inr other) =
-        let differ : bytes_eq q p ≡ false = false_from_ne_true (bytes_eq q p) (λ e. other (ap (home owners) ((bytes_eq-Decides q p).0 e))) in
+        let differ : bytes_eq q p ≡ false = false_from_ne_true (bytes_eq q p) (λ e. other (ap (home owners) ((bytes_eq-Decides q p).0
+        e))) in
         ap (λ o. file_at o q) (slice_get-set_other owners (home owners p) (home owners q) new other)
         ∙ sym (ap (λ b. if b then Some x else owned_at owners q) differ)
 
 -- the same, where the server and the gfid are found from the path
-pub ChangesPath-at : (owners : List OwnerFiles) (p : List ℕ) (o g : ℕ) (old new : OwnerFiles) (x : OwnedPath) → o ≡ home owners p → g ≡ gfid p
+pub ChangesPath-at : (owners : List OwnerFiles) (p : List ℕ) (o g : ℕ) (old new : OwnerFiles) (x : OwnedPath) → o ≡ home owners p → g ≡
+    gfid p
     → slice_get owners o ≡ Some old → ChangesFile old new g p x → ChangesPath owners (set owners o new) p x
 ChangesPath-at owners p o g old new x at is there changes =
     subst (λ o. ChangesPath owners (set owners o new) p x) (sym at)

@@ -1,4 +1,5 @@
-//! The events of a run, one module for each operation: the answer to a line, and what is kept after it.
+//! The events of a run, one module for each operation: the answer to a line, and what is kept after
+//! it.
 
 ghost use Rattle.std.specs.Prelude.{◌≡◌, Some, IfOk, OnOk};
 ghost use Rattle.fs_script.specs.Job.{op_at};

@@ -117,8 +117,8 @@ fn answer_at_owner(
     requires line { op_at s.now n ≡ Some o.now }
     requires sound { IsSoundIn s.now r gfid o.now.path owner.old clients.old }
     ensures changes { ChangesOne owner.old owner.new gfid o.now.path }
-    ensures follows { IfOk result (λ a.
-        FollowsIn s.now n o.now.op r gfid o.now.path owner.old owner.new clients.old clients.new a) }
+    ensures follows { IfOk result (λ a. FollowsIn s.now n o.now.op r gfid o.now.path
+        owner.old owner.new clients.old clients.new a) }
 {
     let at = r.0 as usize;
     let own = &mut clients[at];
@@ -144,8 +144,8 @@ fn answer_on_path(
     requires servers { length owners.old ≡ s.now.shape.servers }
     requires sound { IsSoundAt s.now r o.now.path owners.old clients.old }
     ensures changes { ChangesOnePath owners.old owners.new o.now.path }
-    ensures follows { IfOk result (λ a.
-        FollowsAt s.now n o.now.op r o.now.path owners.old owners.new clients.old clients.new a) }
+    ensures follows { IfOk result (λ a. FollowsAt s.now n o.now.op r o.now.path
+        owners.old owners.new clients.old clients.new a) }
 {
     let gfid = gfid_of(&o.path);
     let owner = owner_of(gfid, s.shape().servers);
@@ -195,7 +195,8 @@ fn answer_line(
     Ok(())
 }
 
-// Goes on to the next line of a client, and where that begins a phase, tells all clients of every path.
+// Goes on to the next line of a client, and where that begins a phase, tells all clients of every
+// path.
 fn go_on(run: &mut Run<'_>, r: Rank)
     requires kept { AreKept run.old.script.now.shape.servers run.old.paths run.old.owners.items
         run.old.clients.items }

@@ -105,6 +105,7 @@ same_parts m n job clients answers journals spent =
 pub one_first : (s : Job) (m n : Moment) → IsFirst s m → IsFirst s n → m ≡ n
 one_first s m n first other =
     let paths = one_path_list first.paths other.paths in
-    let journals = without_lines m.journals first.journals ∙ ap (map (λ p. (p, []))) paths ∙ sym (without_lines n.journals other.journals) in
+    let journals = without_lines m.journals first.journals ∙ ap (map (λ p. (p, []))) paths ∙ sym (without_lines n.journals
+    other.journals) in
     same_parts m n (first.job ∙ sym other.job) (first.clients ∙ sym other.clients) (first.answers ∙ sym other.answers)
     journals (first.spent ∙ sym other.spent)

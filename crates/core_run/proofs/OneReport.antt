@@ -36,7 +36,8 @@ one_end picks m j k first second = elim (cases_lt j k) [
 pub one_report : (picks : List ℕ) (s : Job) (R Q : Report) → IsReportUnder picks s R → IsReportUnder picks s Q → R ≡ Q
 one_report picks s R Q own other =
     let first = one_first s own.first other.first own.begins other.begins in
-    let ended = subst (λ (m : Moment). ready (moment_after picks m own.run.events) ≡ []) first (ap ready (sym own.run.goes) ∙ own.run.ended) in
+    let ended = subst (λ (m : Moment). ready (moment_after picks m own.run.events) ≡ []) first (ap ready (sym own.run.goes) ∙
+    own.run.ended) in
     let last = own.run.goes ∙ ap (λ (m : Moment). moment_after picks m own.run.events) first
     ∙ one_end picks other.first own.run.events other.run.events ended (ap ready (sym other.run.goes) ∙ other.run.ended)
     ∙ sym other.run.goes in

@@ -19,7 +19,8 @@ use Rattle.core_machine.specs.MomentReport.{report_of}
 use Rattle.core_run.specs.PickedRun.{pick_at, picked, after_turn_of, moment_after, IsRunUnder, IsReportUnder}
 
 -- a run and one more turn
-pub Reaches-push : (m n : Moment) (turns : List Turn) (t : Turn) → Reaches m turns n → Contains (ready n) t.client → Reaches m (turns ++ t ∷ []) (step n t)
+pub Reaches-push : (m n : Moment) (turns : List Turn) (t : Turn) → Reaches m turns n → Contains (ready n) t.client → Reaches m (turns
+    ++ t ∷ []) (step n t)
 Reaches-push m n [] t run waits = (subst (λ (k : Moment). Contains (ready k) t.client) (sym run) waits, ap (λ (k : Moment). step k t) run)
 Reaches-push m n (first ∷ turns) t run waits = (run.0, Reaches-push (step m first) n turns t run.1 waits)
 
@@ -34,7 +35,8 @@ unspent_at m r (Some n) unspent = unspent_line m r n (op_at m.job n) unspent
 -- a run of events never runs out of memory
 pub Reaches-unspent : (m n : Moment) (turns : List Turn) → Reaches m turns n → m.spent ≡ false → n.spent ≡ false
 Reaches-unspent m n [] run unspent = ap (λ (k : Moment). k.spent) (sym run) ∙ unspent
-Reaches-unspent m n (t ∷ turns) run unspent = Reaches-unspent (step m t) n turns run.1 (unspent_at m t.client (next_line m t.client) unspent)
+Reaches-unspent m n (t ∷ turns) run unspent = Reaches-unspent (step m t) n turns run.1 (unspent_at m t.client (next_line m t.client)
+    unspent)
 
 -- the operations of a job are of its clients
 pub HasClients-job : (s : Job) → IsJob s → HasClients s
@@ -72,7 +74,8 @@ IsLegal-under {s = s} told legal job under =
 -- ---- what is reported of each path
 
 -- the journal of the path at a place is the one that stands there
-pub entry-at : (js : List (List ℕ × List ℕ)) (i : ℕ) (p j : List ℕ) → AreRising (map (λ k. k.0) js) → slice_get (map (λ k. k.0) js) i ≡ Some p → j ≡ journal_of js p → slice_get js i ≡ Some (p, j)
+pub entry-at : (js : List (List ℕ × List ℕ)) (i : ℕ) (p j : List ℕ) → AreRising (map (λ k. k.0) js) → slice_get (map (λ k. k.0) js) i ≡
+    Some p → j ≡ journal_of js p → slice_get js i ≡ Some (p, j)
 entry-at [] i p j rising at is = absurd cc
 entry-at (k ∷ ks) zero p j rising at is =
     let here : k.0 ≡ p = same_Some k.0 p at in

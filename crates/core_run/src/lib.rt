@@ -1,5 +1,5 @@
-//! Running a job under picks, from its first moment to its report: the picks of a seed, and the run in
-//! which each pick chooses whose turn an event is. It touches nothing outside memory.
+//! Running a job under picks, from its first moment to its report: the picks of a seed, and the run
+//! in which each pick chooses whose turn an event is. It touches nothing outside memory.
 #![tactic(auto)]
 
 mod laws;

@@ -1,6 +1,6 @@
-//! The outside of a program as traits: sources and sinks of bytes, devices and hosts, with a count of
-//! the calls that failed; objects in memory that meet them; and calls over any source or sink. It
-//! touches nothing outside memory.
+//! The outside of a program as traits: sources and sinks of bytes, devices and hosts, with a count
+//! of the calls that failed; objects in memory that meet them; and calls over any source or sink.
+//! It touches nothing outside memory.
 #![tactic(auto)]
 
 mod calm_dev;

@@ -4,7 +4,8 @@ use crate::file_list::FileList;
 use fs_plain::Journals;
 use fs_types::{Answers, StagedOut};
 
-/// What a job reports: the answers by line, and for each path in byte order its journal and its file.
+/// What a job reports: the answers by line, and for each path in byte order its journal and its
+/// file.
 #[derive(Debug, Drop)]
 pub struct Report {
     pub answers: Answers,

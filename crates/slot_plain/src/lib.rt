@@ -1,7 +1,7 @@
 //! One client's log on one thread: slots that are counted, and the bytes that they hold. A write of
-//! more than a slot's bytes is in as many slots as it needs, one piece to each; the lowest free slots
-//! are taken. The first slots are in shared memory, and those behind them on the log's device. Of the
-//! outside it touches that device alone, by the trait of devices.
+//! more than a slot's bytes is in as many slots as it needs, one piece to each; the lowest free
+//! slots are taken. The first slots are in shared memory, and those behind them on the log's
+//! device. Of the outside it touches that device alone, by the trait of devices.
 //!
 //! A slot is taken and then filled. It is read while something holds it, and each that holds it
 //! counts: one takes it, others pin it, and each releases it once.

@@ -23,7 +23,8 @@ answer-requires-clause-sound c =
     let clients = c.args.clients.now in
     let s = c.args.s.now in
     let sound = c.requires.sound.sound in
-    let read = client-read clients c.args.r c.r.inside.0 c.index-clients-at.result sound.client c.r.view_is c.index-clients-at.is sound.beside in
+    let read = client-read clients c.args.r c.r.inside.0 c.index-clients-at.result sound.client c.r.view_is c.index-clients-at.is
+    sound.beside in
     let own = same_Some sound.client c.index-clients-at.result (sym sound.beside ∙ read) in
     let file = same_Some c.requires.sound.file c.in-Some.file.now (sym c.requires.sound.there
     ∙ ap (λ (p : List ℕ). get_by (names_key c.args.gfid p) c.args.owner.now.files) (sym c.as_bytes-path.ensures.bytes)
@@ -43,7 +44,8 @@ returns c =
     let changes = found-after files (c.get_mut.follows.lender now) gfid path now
     (subst (λ (p : List ℕ). UpdatesBy same_key (names_key gfid p) files (c.get_mut.follows.lender now) (Some now))
     c.as_bytes-path.ensures.bytes ((c.get_mut.follows.holds now).3 (ap is_some at))) in
-    let read = client-read clients c.args.r c.r.inside.0 c.index-clients-at.result sound.client c.r.view_is c.index-clients-at.is sound.beside in
+    let read = client-read clients c.args.r c.r.inside.0 c.index-clients-at.result sound.client c.r.view_is c.index-clients-at.is
+    sound.beside in
     let was : get_by (names_key gfid path) files ≡ Some c.in-Some.file.now =
     ap (λ (p : List ℕ). get_by (names_key gfid p) files) (sym c.as_bytes-path.ensures.bytes)
     ∙ sym c.get_mut.ensures.value ∙ ap option_copied_mut c.in-Some.is in
