@@ -43,7 +43,7 @@ impl<D: SpillDev + Drop> Model for PlainLog<D> {
 
 impl<D: SpillDev + Drop> PlainLog<D> {
     /// The log of a client of a job of this shape, whose slots are all free.
-    pub fn new(_alloc: Global, rank: Rank, shape: Shape, dev: D) -> Result<PlainLog<D>, Want>
+    pub fn new(alloc: Global, rank: Rank, shape: Shape, dev: D) -> Result<PlainLog<D>, Want>
         requires slots { shape.shmem + shape.spill < 2 ^ 32 }
         requires device { shape.spill * shape.chunk ≤ D.size dev }
         ensures { IfOk result (λ log. log ≡ record {
@@ -57,7 +57,7 @@ impl<D: SpillDev + Drop> PlainLog<D> {
     {
         Ok(PlainLog {
             rank,
-            table: SlotTable::new(_alloc, shape),
+            table: SlotTable::new(alloc, shape),
             dev,
             faults: 0,
         })
