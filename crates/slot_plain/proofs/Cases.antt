@@ -1,7 +1,6 @@
 -- Slots, logs and their devices, worked out by hand.
 use Rattle.std.proofs.Common.{◌≡◌, ℕ, List, [], ◌∷◌, Some, None, true, false, take, refl}
 use Rattle.std.specs.Prelude.{Option}
-use Rattle.slot_plain.specs.FreePlaces.{free_places}
 use Rattle.slot_plain.specs.LeastTree.{flags_in}
 use Rattle.slot_plain.specs.Slots.{StoredPiece, Slot, free_slot, taken_slot, filled, pinned, released, slot_at, free_slots, held_count}
 use Rattle.slot_plain.specs.Slots.{with_taken, bytes_in}
