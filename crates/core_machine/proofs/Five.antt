@@ -1,3 +1,3 @@
 -- The script of five lines, run by the machine.
-pub mod Events
+pub mod FiveEvents
 pub mod Run

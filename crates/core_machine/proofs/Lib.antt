@@ -1,9 +1,7 @@
-pub mod CallerLemmas
 pub mod Extents
 pub mod PathTables
 pub mod OwnerFiles
 pub mod OwnersOfPaths
-pub mod Paths
 pub mod Places
 pub mod Programs
 pub mod Refines

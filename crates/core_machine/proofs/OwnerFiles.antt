@@ -9,12 +9,12 @@ use Rattle.indexmap.specs.Layout.{set_value_at}
 use Rattle.indexmap.specs.IndexMap.{IndexMap, get_by, UpdatesBy}
 use Rattle.core_machine.specs.declared.owner_files.FileKey.{FileKey}
 use Rattle.core_machine.specs.declared.path_state.OwnedPath.{OwnedPath}
-use Rattle.core_machine.specs.Kept.{told}
+use Rattle.core_machine.specs.Kept.{owner_told}
 use Rattle.core_machine.specs.OwnerFiles.{names_key}
 
 -- an entry, once all clients were told of its file
 abbrev pub told_entry : FileKey × OwnedPath → FileKey × OwnedPath
-told_entry e = (e.0, told e.1)
+told_entry e = (e.0, owner_told e.1)
 
 -- keys of one gfid and one path are one
 abbrev pub same_key : FileKey → FileKey → Bool
@@ -66,10 +66,10 @@ abbrev pub told_before : ℕ → List (FileKey × OwnedPath) → List (FileKey �
 told_before i es = map told_entry (take i es) ++ drop i es
 
 pub told-more : (es : List (FileKey × OwnedPath)) (i : ℕ) (x : OwnedPath) → slice_get (values_of (told_before i es)) i ≡ Some x
-    → set_value_at (told_before i es) i (told x) ≡ told_before (suc i) es
+    → set_value_at (told_before i es) i (owner_told x) ≡ told_before (suc i) es
 told-more [] zero x is = absurd cc
 told-more [] (suc i) x is = absurd cc
-told-more (e ∷ es) zero x is = ap (λ y. (e.0, told y) ∷ es) (sym (same_Some e.1 x is))
+told-more (e ∷ es) zero x is = ap (λ y. (e.0, owner_told y) ∷ es) (sym (same_Some e.1 x is))
 told-more (e ∷ es) (suc i) x is = ap (λ rest. told_entry e ∷ rest) (told-more es i x is)
 
 pub told-there : (es : List (FileKey × OwnedPath)) (i : ℕ) → i < length es → slice_get (values_of (told_before i es)) i ≡ None → ⊥

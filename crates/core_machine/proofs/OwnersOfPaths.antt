@@ -9,7 +9,7 @@ use Rattle.std.specs.Option.{option_map}
 use Rattle.placement.specs.Placement.{gfid, owner}
 use Rattle.core_machine.specs.declared.owner_files.OwnerFiles.{OwnerFiles}
 use Rattle.core_machine.specs.declared.path_state.OwnedPath.{OwnedPath}
-use Rattle.core_machine.specs.Kept.{IsFreshOwner, told}
+use Rattle.core_machine.specs.Kept.{IsFreshOwner, owner_told}
 use Rattle.core_machine.specs.OwnerFiles.{file_in, file_at, owned_at, ChangesFile, ChangesPath, AddsPath, AreFresh}
 use Rattle.fs_script.proofs.CallerLemmas.{slice_get-set_same, slice_get-set_other}
 
@@ -72,31 +72,31 @@ owned-here owners p o g list at is there =
 
 -- ---- all are told, one server after the other
 
-abbrev pub told_if : Bool → Option OwnedPath → Option OwnedPath
-told_if b r = cond b (option_map told r) r
+abbrev pub if_told : Bool → Option OwnedPath → Option OwnedPath
+if_told b r = cond b (option_map owner_told r) r
 
 -- the first n servers were told of what they own
-abbrev pub AreTold : ℕ → List OwnerFiles → List OwnerFiles → Type 0
-AreTold n old new = (o : ℕ) (p : List ℕ) → file_at (slice_get new o) p ≡ told_if (nat_lt o n) (file_at (slice_get old o) p)
+abbrev pub WereTold : ℕ → List OwnerFiles → List OwnerFiles → Type 0
+WereTold n old new = (o : ℕ) (p : List ℕ) → file_at (slice_get new o) p ≡ if_told (nat_lt o n) (file_at (slice_get old o) p)
 
-pub AreTold-more : (n : ℕ) (old new : List OwnerFiles) (list told_list : OwnerFiles) → slice_get new n ≡ Some list → AreTold n old new
-    → ((g : ℕ) (p : List ℕ) → file_in told_list g p ≡ option_map told (file_in list g p)) → AreTold (n + 1) old (set new n told_list)
+pub AreTold-more : (n : ℕ) (old new : List OwnerFiles) (list told_list : OwnerFiles) → slice_get new n ≡ Some list → WereTold n old new
+    → ((g : ℕ) (p : List ℕ) → file_in told_list g p ≡ option_map owner_told (file_in list g p)) → WereTold (n + 1) old (set new n told_list)
 AreTold-more n old new list told_list is told_before step o p = by (cases_eq o n)
   where
-    by : (o ≡ n) ⊎ (o ≡ n → ⊥) → file_at (slice_get (set new n told_list) o) p ≡ told_if (nat_lt o (n + 1)) (file_at (slice_get old o) p)
+    by : (o ≡ n) ⊎ (o ≡ n → ⊥) → file_at (slice_get (set new n told_list) o) p ≡ if_told (nat_lt o (n + 1)) (file_at (slice_get old o) p)
     by (inl same) =
         let lt : nat_lt n (n + 1) ≡ true = lt-ltb n (n + 1) (omega arith) in
         let ge : nat_lt n n ≡ false = le-ltb n n (omega arith) in
         let was : file_at (slice_get old n) p ≡ file_in list (gfid p) p =
-        sym (told_before n p ∙ ap (λ b. told_if b (file_at (slice_get old n) p)) ge) ∙ ap (λ r. file_at r p) is in
+        sym (told_before n p ∙ ap (λ b. if_told b (file_at (slice_get old n) p)) ge) ∙ ap (λ r. file_at r p) is in
         ap (λ m. file_at (slice_get (set new n told_list) m) p) same
         ∙ ap (λ r. file_at r p) (slice_get-set_same new n told_list (slice_get_within new n list is))
-        ∙ step (gfid p) p ∙ ap (option_map told) (sym was)
-        ∙ sym (ap (λ b. told_if b (file_at (slice_get old n) p)) lt)
-        ∙ ap (λ m. told_if (nat_lt m (n + 1)) (file_at (slice_get old m) p)) (sym same)
+        ∙ step (gfid p) p ∙ ap (option_map owner_told) (sym was)
+        ∙ sym (ap (λ b. if_told b (file_at (slice_get old n) p)) lt)
+        ∙ ap (λ m. if_told (nat_lt m (n + 1)) (file_at (slice_get old m) p)) (sym same)
     by (inr other) =
         ap (λ r. file_at r p) (slice_get-set_other new n o told_list other) ∙ told_before o p
-        ∙ ap (λ b. told_if b (file_at (slice_get old o) p)) (same_side (cases_lt n o))
+        ∙ ap (λ b. if_told b (file_at (slice_get old o) p)) (same_side (cases_lt n o))
       where
         same_side : (n < o) ⊎ (o ≤ n) → nat_lt o n ≡ nat_lt o (n + 1)
         same_side (inl past) = le-ltb o n (omega arith) ∙ sym (le-ltb o (n + 1) (omega arith))

@@ -1,6 +1,6 @@
 -- The code is the machine: what is kept stands for the moment, before the first event and after each.
 pub mod Syncs
-pub mod Answers
+pub mod NextAnswers
 pub mod Owners
 pub mod Clients
 pub mod JournalsKept

@@ -5,7 +5,7 @@ use Rattle.core_machine.specs.Kept.{PathState}
 use Rattle.core_machine.specs.Moment.{Moment}
 use Rattle.core_machine.specs.MomentKept.{moment_of}
 use Rattle.core_machine.specs.OwnerFiles.{owned_at}
-use Rattle.core_machine.specs.States.{AreKept, states_of}
+use Rattle.core_machine.specs.PathStates.{AreKept, states_of}
 use Rattle.core_machine.specs.Turns.{IsInPhase}
 use Rattle.core_machine.specs.Standing.{Holds}
 

@@ -68,12 +68,12 @@ abbrev pub board_now : OwnedPath → Noted
 board_now x = record { version = length x.journal.items; exists = is_some x.file }
 
 -- the owner's part, once they were told
-abbrev pub told : OwnedPath → OwnedPath
-told x = record x { board = board_now x }
+abbrev pub owner_told : OwnedPath → OwnedPath
+owner_told x = record x { board = board_now x }
 
 -- the path, once they were told
 abbrev pub with_board : PathState → PathState
-with_board x = record { owned = told x.owned; clients = x.clients }
+with_board x = record { owned = owner_told x.owned; clients = x.clients }
 
 -- nothing was committed to the path, and of so many clients none did anything
 pub record IsFreshPath (count : ℕ) (x : PathState) : Type 0 where

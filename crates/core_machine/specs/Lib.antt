@@ -7,7 +7,7 @@ pub mod Events
 pub mod Step
 pub mod Kept
 pub mod OwnerFiles
-pub mod States
+pub mod PathStates
 pub mod Follows
 pub mod Turns
 pub mod Program

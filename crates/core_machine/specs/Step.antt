@@ -6,7 +6,7 @@ use Rattle.fs_script.specs.declared.line.OpLine.{OpLine}
 use Rattle.fs_script.specs.declared.line.Op.{Op}
 use Rattle.fs_script.specs.declared.line.Op.TheVariants as ops
 use Rattle.fs_script.specs.Job.{Job, op_at}
-use Rattle.fs_script.specs.Payload.{data_bytes}
+use Rattle.fs_script.specs.Payload.{write_of}
 use Rattle.fs_script.specs.Pending.{Answering, pending}
 use Rattle.fs_script.specs.Effect.{state}
 use Rattle.fs_script.specs.Front.{front, is_open}
@@ -27,7 +27,7 @@ pub record Turn : Type 0 where
 abbrev pub event_of : ℕ → PathNow → Op → Event
 event_of chunk w ops.Create = create_event w
 event_of chunk w ops.Open = open_event w
-event_of chunk w (ops.Write off text) = write_event chunk w (record { at = off; bytes = data_bytes text })
+event_of chunk w (ops.Write off text) = write_event chunk w (write_of off text)
 event_of chunk w ops.Sync = sync_event w
 event_of chunk w (ops.Read off len) = read_event w (record { off = off; len = len })
 event_of chunk w ops.Size = size_event w

@@ -15,7 +15,7 @@ pub use Rattle.core_machine.specs.Events.Write.{write_within, write_at_front, wr
 pub use Rattle.core_machine.specs.Extents.{lines_of_extents, bytes_of_extents, byte_over, IsExtent, AreExtents}
 pub use Rattle.core_machine.specs.Follows.{Follows, kept_event, Knows, FollowsFor, IsSoundFor}
 pub use Rattle.core_machine.specs.Kept.{file_of, pending_lines, IsFreshOwner, IsFreshClient, IsFreshPath, AreSound, known_from, board_now}
-pub use Rattle.core_machine.specs.Kept.{PathState, told, with_board, kept_now, later_of}
+pub use Rattle.core_machine.specs.Kept.{PathState, owner_told, with_board, kept_now, later_of}
 pub use Rattle.core_machine.specs.LegalSoFar.{HasClients, IsLegalMoment, Reaches, IsAnsweredUpTo}
 pub use Rattle.core_machine.specs.Moment.{Client, Moment, fresh_client, ready, printed, answering, client_of, journal, IsFirst, has_begun}
 pub use Rattle.core_machine.specs.Moment.{may_come, next_line, with_entry, file_now, events_left}

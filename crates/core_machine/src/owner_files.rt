@@ -3,7 +3,7 @@
 
 ghost use Rattle.std.specs.Prelude.{◌≡◌, ℕ, List, IfOk, OnOk};
 ghost use Rattle.std.specs.Option.{option_map, option_copied};
-ghost use Rattle.core_machine.specs.Kept.{told};
+ghost use Rattle.core_machine.specs.Kept.{owner_told};
 ghost use Rattle.core_machine.specs.OwnerFiles.{file_in, AddsFile};
 
 use crate::path_state::OwnedPath;
@@ -79,7 +79,7 @@ impl OwnerFiles {
     /// Tells all clients of each file.
     pub fn tell(&mut self)
         ensures { (gfid : ℕ) (p : List ℕ)
-            → file_in self.new gfid p ≡ option_map told (file_in self.old gfid p) }
+            → file_in self.new gfid p ≡ option_map owner_told (file_in self.old gfid p) }
     {
         for i in 0..self.files.len() {
             if let Some(file) = self.files.get_index_mut(i) {

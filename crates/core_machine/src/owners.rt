@@ -3,7 +3,7 @@
 
 ghost use Rattle.std.specs.Prelude.{◌≡◌, ℕ, ◌≤◌, List, length, IfOk, OnOk};
 ghost use Rattle.std.specs.Option.{option_map, option_copied};
-ghost use Rattle.core_machine.specs.Kept.{told};
+ghost use Rattle.core_machine.specs.Kept.{owner_told};
 ghost use Rattle.core_machine.specs.OwnerFiles.{owned_at, AddsPath, AreFresh};
 
 use crate::owner_files::OwnerFiles;
@@ -63,7 +63,7 @@ pub fn owned<'o>(owners: &'o [OwnerFiles], servers: u32, p: &Path) -> Option<&'o
 pub fn tell_all(owners: &mut [OwnerFiles])
     ensures sized { length owners.new ≡ length owners.old }
     ensures told { (p : List ℕ)
-        → owned_at owners.new p ≡ option_map told (owned_at owners.old p) }
+        → owned_at owners.new p ≡ option_map owner_told (owned_at owners.old p) }
 {
     for list in owners {
         list.tell();

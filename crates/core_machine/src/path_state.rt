@@ -1,7 +1,7 @@
 //! What is kept for a path: by its owner, and by each client.
 
 ghost use Rattle.std.specs.Prelude.{◌≡◌, length, IfOk};
-ghost use Rattle.core_machine.specs.Kept.{IsFreshClient, IsFreshOwner, AreFreshClients, later_of, told};
+ghost use Rattle.core_machine.specs.Kept.{IsFreshClient, IsFreshOwner, AreFreshClients, later_of, owner_told};
 
 use crate::extent::Extent;
 use crate::noted::Noted;
@@ -50,7 +50,7 @@ impl OwnedPath {
 
     /// Tells all clients the version.
     pub fn tell(&mut self)
-        ensures { self.new ≡ told self.old }
+        ensures { self.new ≡ owner_told self.old }
     {
         self.board = Noted {
             version: self.version(),

@@ -9,7 +9,7 @@ ghost use Rattle.core_machine.specs.Step.{step};
 ghost use Rattle.core_machine.specs.Kept.{AreFreshClients};
 ghost use Rattle.core_machine.specs.Follows.{FollowsAt, FollowsIn, IsSoundAt, IsSoundIn};
 ghost use Rattle.core_machine.specs.OwnerFiles.{ChangesOne, ChangesOnePath, owned_at};
-ghost use Rattle.core_machine.specs.States.{AreKept, states_of};
+ghost use Rattle.core_machine.specs.PathStates.{AreKept, states_of};
 ghost use Rattle.core_machine.specs.Turns.{going};
 ghost use Rattle.core_machine.specs.MomentKept.{journals_of, moment_of};
 ghost use Rattle.core_machine.specs.Turns.{after_line};

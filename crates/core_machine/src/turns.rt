@@ -79,13 +79,6 @@ impl<'s> Turns<'s> {
         })
     }
 
-    /// The phase that the run is in.
-    pub fn phase(&self) -> u32
-        ensures { result ≡ self.now.phase }
-    {
-        self.phase
-    }
-
     /// The clients that may go, ascending: each has a next line in the phase that the run is in.
     pub fn ready(&self) -> &[Rank]
         ensures ready { result.now ≡ going self.now }

@@ -11,7 +11,7 @@ use Rattle.std.proofs.lemmas.Option.{same_Some, slice_get_within, get_or_from_sl
 use Rattle.fs_script.specs.Job.{Job}
 use Rattle.fs_script.specs.Report.{AreRising, ArePaths}
 use Rattle.core_machine.specs.Moment.{Moment, IsFirst}
-use Rattle.core_machine.proofs.CallerLemmas.{not_among}
+use Rattle.fs_script.proofs.CallerLemmas.{not_among}
 
 -- ---- paths in byte order are one list
 

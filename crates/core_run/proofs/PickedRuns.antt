@@ -4,13 +4,12 @@ use Rattle.std.proofs.Common.{refl, sym, ap, subst, ◌∙◌}
 use Rattle.std.specs.List.{slice_get, Contains}
 use Rattle.std.specs.Str.{bytes_eq}
 use Rattle.std.proofs.lemmas.Option.{same_Some, slice_get_within, get_or_from_slice_get}
-use Rattle.fs_types.specs.PathText.{IsPath}
 use Rattle.fs_script.specs.Grammar.{IsJob}
 use Rattle.fs_script.specs.Report.{Report, AreRising, journal_of, IsLegal}
 use Rattle.fs_script.proofs.CallerLemmas.{IsOpLine-from_job}
-use Rattle.core_machine.proofs.CallerLemmas.{not_among, same_bytes, other_bytes}
+use Rattle.fs_script.proofs.CallerLemmas.{not_among, same_bytes, other_bytes}
 use Rattle.fs_script.specs.declared.line.OpLine.{OpLine}
-use Rattle.fs_script.specs.Job.{Job, op_at, Names}
+use Rattle.fs_script.specs.Job.{Job, op_at}
 use Rattle.core_machine.specs.Moment.{Moment, IsFirst, ready, next_line}
 use Rattle.core_machine.specs.Step.{Turn, step, step_at, step_line}
 use Rattle.core_machine.specs.LegalSoFar.{HasClients, Reaches}
@@ -84,7 +83,3 @@ entry-at (k ∷ ks) zero p j rising at is =
 entry-at (k ∷ ks) (suc i) p j rising at is =
     let other : bytes_eq k.0 p ≡ false = other_bytes k.0 p (λ e. not_among k.0 (map (λ l. l.0) ks) i rising.0 (at ∙ ap Some (sym e))) in
     entry-at ks i p j rising.1 at (is ∙ ap (λ b. cond b k.1 (journal_of ks p)) other)
-
--- the paths that a job names are in the grammar
-pub IsPath-named : (s : Job) (p : List ℕ) → IsJob s → Names s p → IsPath p
-IsPath-named s p job named = subst IsPath named.on (IsOpLine-from_job s named.line named.op job named.is).path

@@ -2,24 +2,25 @@
 
 ghost use Rattle.std.specs.Prelude.{◌≡◌};
 
-use fs_types::Name;
+use fs_types::{LONGEST_PATH, Name};
 use std::marker::Model;
 
 /// A name that is kept with no memory of its own. A clause sees the list of its bytes.
 #[derive(Debug, Drop)]
 pub struct KeptName {
-    bytes: [u8; 255],
+    bytes: [u8; LONGEST_PATH],
     len: usize,
 }
 
 impl Model for KeptName {
     ghost use Rattle.std.specs.Prelude.{ℕ, ◌≤◌, List, take};
+    ghost use Rattle.fs_types.specs.declared.limits.TheConstants.{LONGEST_PATH};
 
     ghost Value = { List ℕ };
 
     ghost view = { λ n. take n.len n.bytes };
 
-    ghost invariant = { λ n. n.len ≤ 255 };
+    ghost invariant = { λ n. n.len ≤ LONGEST_PATH };
 }
 
 impl KeptName {
@@ -27,7 +28,7 @@ impl KeptName {
         ensures { result ≡ name.now }
     {
         let text = name.as_bytes();
-        let mut bytes = [0; 255];
+        let mut bytes = [0; LONGEST_PATH];
         let len = text.len();
         bytes[..len].copy_from_slice(text);
         KeptName { bytes, len }

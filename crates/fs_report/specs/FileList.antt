@@ -4,8 +4,8 @@ use Rattle.fs_types.specs.declared.file_state.FileState.{FileState}
 use Rattle.fs_report.specs.declared.file_list.FileEntry.{FileEntry}
 
 -- a path with its file
-abbrev pub entry_of : FileEntry → List ℕ × FileState
-entry_of f = (f.path, f.state)
+abbrev pub file_entry_of : FileEntry → List ℕ × FileState
+file_entry_of f = (f.path, f.state)
 
-abbrev pub entries_of : List FileEntry → List (List ℕ × FileState)
-entries_of fs = map entry_of fs
+abbrev pub file_entries_of : List FileEntry → List (List ℕ × FileState)
+file_entries_of fs = map file_entry_of fs

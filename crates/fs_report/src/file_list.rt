@@ -25,9 +25,9 @@ impl Model for FileList {
 
     ghost Value = { List (List ℕ × State) };
 
-    ghost use Rattle.fs_report.specs.FileList.{entries_of};
+    ghost use Rattle.fs_report.specs.FileList.{file_entries_of};
 
-    ghost view = { λ f. entries_of f.files.items };
+    ghost view = { λ f. file_entries_of f.files.items };
 }
 
 impl FileList {

@@ -21,6 +21,9 @@ pub use Rattle.fs_script.proofs.SoFar.{IsLegalSoFar-none, IsLegalSoFar-kept, IsL
 pub use Rattle.fs_script.proofs.Finished.{IsLegal-finished}
 -- the lines of rising answers are the numbers of a range that pass a test
 pub use Rattle.fs_script.proofs.AnsweredLines.{rises_past, lines-passing}
+-- paths in byte order, their places, and what stands beside each
+pub use Rattle.fs_script.proofs.PathPlaces.{not_among, place_unique, same_bytes, other_bytes, journal_of-zip, journal_of-absent}
+pub use Rattle.fs_script.proofs.LegalReports.{IsPath-named}
 -- plain lists, ranges and options
 pub use Rattle.fs_script.proofs.PlainLists.{some_of, none_from-is_some}
 pub use Rattle.fs_script.proofs.PlainLists.{AllByRecursion-from_get, AllByRecursion-weaker, AllByRecursion-push, slice_get-push_last}

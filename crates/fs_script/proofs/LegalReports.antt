@@ -45,7 +45,7 @@ journal_of-each (j ∷ js) rising =
 -- ---- the parts of a legal report
 
 -- a path that the script names is a path
-IsPath-named : (s : Job) (p : List ℕ) → IsJob s → Names s p → IsPath p
+pub IsPath-named : (s : Job) (p : List ℕ) → IsJob s → Names s p → IsPath p
 IsPath-named s p job named = subst IsPath named.on (IsOpLine-from_job s named.line named.op job named.is).path
 
 -- what a file is printed as

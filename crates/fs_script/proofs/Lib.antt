@@ -1,5 +1,6 @@
 pub mod CallerLemmas
 pub mod PlainLists
+pub mod PathPlaces
 pub mod FiveLines
 pub mod Number
 pub mod Lines

@@ -24,11 +24,15 @@ pub record Write : Type 0 where
   pub at : ℕ
   pub bytes : List ℕ
 
+-- what a write of this data at this place brings
+abbrev pub write_of : ℕ → Data → Write
+write_of off text = record { at = off; bytes = data_bytes text }
+
 -- what an operation brings into its client's log, if it does
 abbrev pub brought : Op → Option Write
 brought ops.Create = None
 brought ops.Open = None
-brought (ops.Write off text) = Some (record { at = off; bytes = data_bytes text })
+brought (ops.Write off text) = Some (write_of off text)
 brought ops.Sync = None
 brought (ops.Read off len) = None
 brought ops.Size = None

@@ -5,7 +5,7 @@ use Rattle.fs_script.specs.declared.line.OpLine.{OpLine}
 use Rattle.fs_script.specs.declared.line.Op.{Op}
 use Rattle.fs_script.specs.declared.line.Op.TheVariants as ops
 use Rattle.fs_script.specs.Job.{Job, op_at, own_at}
-use Rattle.fs_script.specs.Payload.{data_bytes}
+use Rattle.fs_script.specs.Payload.{write_of}
 use Rattle.fs_script.specs.AnswerKinds.{is_accepted, empties}
 
 -- answers by line
@@ -20,7 +20,7 @@ with_write n bytes q = if length bytes == 0 then q else q ++ n ∷ []
 abbrev pub after_answer : Op → Answer → ℕ → List ℕ → List ℕ
 after_answer ops.Create a n q = q
 after_answer ops.Open a n q = q
-after_answer (ops.Write off text) a n q = if is_accepted a then with_write n (data_bytes text) q else q
+after_answer (ops.Write off text) a n q = if is_accepted a then with_write n (write_of off text).bytes q else q
 after_answer ops.Sync a n q = if empties a then [] else q
 after_answer (ops.Read off len) a n q = q
 after_answer ops.Size a n q = q

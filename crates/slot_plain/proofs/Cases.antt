@@ -1,10 +1,9 @@
 -- Slots, logs and their devices, worked out by hand.
 use Rattle.std.proofs.Common.{◌≡◌, ℕ, List, [], ◌∷◌, Some, None, true, false, take, refl}
 use Rattle.std.specs.Prelude.{Option}
-use Rattle.slot_plain.specs.FreePlaces.{free_places}
 use Rattle.slot_plain.specs.LeastTree.{flags_in}
 use Rattle.slot_plain.specs.Slots.{StoredPiece, Slot, free_slot, taken_slot, filled, pinned, released, slot_at, free_slots, held_count}
-use Rattle.slot_plain.specs.Slots.{with_taken, bytes_in}
+use Rattle.slot_plain.specs.Slots.{with_taken, bytes_of_slot}
 use Rattle.slot_plain.specs.Log.{spill_place, bytes_from, told_slots}
 
 -- ---- a log with holes: slots 1 and 3 are free, and slot 2 is held twice
@@ -63,12 +62,12 @@ third_slot_is_last_on_the_device = refl
 bytes_of_the_last_slot : bytes_from 2 2 (Some told_cells) ≡ Some (5 ∷ 6 ∷ [])
 bytes_of_the_last_slot = refl
 
-pieces_in_memory_and_on_the_device : bytes_in (slot_at (told_slots 1 2 (Some told_cells) 0 (full ∷ free_slot ∷ full ∷ [])) 0) ≡ Some (7
+pieces_in_memory_and_on_the_device : bytes_of_slot (slot_at (told_slots 1 2 (Some told_cells) 0 (full ∷ free_slot ∷ full ∷ [])) 0) ≡ Some (7
     ∷ 8 ∷ [])
 pieces_in_memory_and_on_the_device = refl
 
-piece_on_the_device : bytes_in (slot_at (told_slots 1 2 (Some told_cells) 0 (full ∷ free_slot ∷ full ∷ [])) 2) ≡ Some (5 ∷ 6 ∷ [])
+piece_on_the_device : bytes_of_slot (slot_at (told_slots 1 2 (Some told_cells) 0 (full ∷ free_slot ∷ full ∷ [])) 2) ≡ Some (5 ∷ 6 ∷ [])
 piece_on_the_device = refl
 
-no_device_tells : bytes_in (slot_at (told_slots 1 2 None 0 (full ∷ free_slot ∷ full ∷ [])) 2) ≡ None
+no_device_tells : bytes_of_slot (slot_at (told_slots 1 2 None 0 (full ∷ free_slot ∷ full ∷ [])) 2) ≡ None
 no_device_tells = refl

@@ -7,7 +7,7 @@ use Rattle.std.proofs.lemmas.List.{get_or-set_same, get_or-set_other, length-set
 use Rattle.std.proofs.lemmas.List.FromFn.{length-map-range_with_len, get_or-map-range_with_len, fill_by_all}
 use Rattle.std.proofs.lemmas.Option.{slice_get_within, get_or_from_slice_get, slice_get-get_or}
 use Rattle.slot_plain.specs.FreePlaces.{free_places}
-use Rattle.slot_plain.specs.LeastTree.{node, IsTree, LeafSet, Widens, flags_in, KeepsFree}
+use Rattle.slot_plain.specs.LeastTree.{tree_node, IsTree, LeafSet, Widens, flags_in, KeepsFree}
 use Rattle.slot_plain.specs.declared.least_tree.TheConstants.{NO_SLOT}
 use Rattle.slot_plain.proofs.FreeLists.{free_from-lowest, length-free_from-set, free_from-push, free_place, length-free_from-le}
 
@@ -15,17 +15,17 @@ use Rattle.slot_plain.proofs.FreeLists.{free_from-lowest, length-free_from-set, 
 
 -- whether a leaf has its own number
 is_own : List ℕ → ℕ → ℕ → Bool
-is_own nodes room s = node nodes (room + s) == s
+is_own nodes room s = tree_node nodes (room + s) == s
 
 module _ (nodes : List ℕ) (room len : ℕ) where
   pub length-flags_in : length (flags_in nodes room len) ≡ len
-  length-flags_in = length-map-range_with_len (λ s. node nodes (room + s) == s) 0 len
+  length-flags_in = length-map-range_with_len (λ s. tree_node nodes (room + s) == s) 0 len
 
-  flags_in-at : (s : ℕ) → s < len → get_or (flags_in nodes room len) s false ≡ (node nodes (room + s) == s)
-  flags_in-at s lt = get_or-map-range_with_len (λ s. node nodes (room + s) == s) 0 len s s false lt (omega arith)
+  flags_in-at : (s : ℕ) → s < len → get_or (flags_in nodes room len) s false ≡ (tree_node nodes (room + s) == s)
+  flags_in-at s lt = get_or-map-range_with_len (λ s. tree_node nodes (room + s) == s) 0 len s s false lt (omega arith)
 
   -- a flag that is set belongs to a leaf with its own number
-  flags_in-own : (s : ℕ) → slice_get (flags_in nodes room len) s ≡ Some true → (s < len) × (node nodes (room + s) ≡ s)
+  flags_in-own : (s : ℕ) → slice_get (flags_in nodes room len) s ≡ Some true → (s < len) × (tree_node nodes (room + s) ≡ s)
   flags_in-own s is =
       let within = slice_get_within (flags_in nodes room len) s true is in
       let lt : s < len = omega (arith, length-flags_in, within) in
@@ -34,14 +34,14 @@ module _ (nodes : List ℕ) (room len : ℕ) where
 
   -- flags that agree with the leaves are these
   flags_in-by : (flags : List Bool) → length flags ≡ len
-      → ((s : ℕ) → s < len → get_or flags s false ≡ (node nodes (room + s) == s)) → flags ≡ flags_in nodes room len
-  flags_in-by flags size agree = fill_by_all (λ s. node nodes (room + s) == s) flags len false size agree
+      → ((s : ℕ) → s < len → get_or flags s false ≡ (tree_node nodes (room + s) == s)) → flags ≡ flags_in nodes room len
+  flags_in-by flags size agree = fill_by_all (λ s. tree_node nodes (room + s) == s) flags len false size agree
 
 -- ---- the root
 
 module _ (nodes : List ℕ) (room : ℕ) (tree : IsTree nodes room) where
   -- the root has the least of all that the nodes have; `more` is at least i
-  root-le_by : (more i : ℕ) → i ≤ more → 1 ≤ i → i < 2 * room → node nodes 1 ≤ node nodes i
+  root-le_by : (more i : ℕ) → i ≤ more → 1 ≤ i → i < 2 * room → tree_node nodes 1 ≤ tree_node nodes i
   root-le_by zero i le one lt = absurd (omega arith)
   root-le_by (suc more) i le one lt = elim (cases_eq i 1) [
     | inl same ↦ rw same (omega arith)
@@ -52,33 +52,33 @@ module _ (nodes : List ℕ) (room : ℕ) (tree : IsTree nodes room) where
         let up = root-le_by more (i / 2) (omega arith) above (omega arith) in
         elim (cases_eq i (2 * (i / 2))) [
           | inl left ↦
-              let here : node nodes (i / 2) ≤ node nodes (2 * (i / 2)) = omega arith in
-              let moved : node nodes i ≡ node nodes (2 * (i / 2)) = ap (node nodes) left in
+              let here : tree_node nodes (i / 2) ≤ tree_node nodes (2 * (i / 2)) = omega arith in
+              let moved : tree_node nodes i ≡ tree_node nodes (2 * (i / 2)) = ap (tree_node nodes) left in
               omega (arith, up, here, moved)
           | inr not_left ↦
               let right : i ≡ 2 * (i / 2) + 1 = omega arith in
-              let here : node nodes (i / 2) ≤ node nodes (2 * (i / 2) + 1) = omega arith in
-              let moved : node nodes i ≡ node nodes (2 * (i / 2) + 1) = ap (node nodes) right in
+              let here : tree_node nodes (i / 2) ≤ tree_node nodes (2 * (i / 2) + 1) = omega arith in
+              let moved : tree_node nodes i ≡ tree_node nodes (2 * (i / 2) + 1) = ap (tree_node nodes) right in
               omega (arith, up, here, moved)
         ]
   ]
 
   -- what a node has is what some leaf below it has; `more` is at least the number of nodes from i on
   leaf_below : (more i : ℕ) → 2 * room ≤ i + more → 1 ≤ i → i < 2 * room
-      → (s : ℕ) × (s < room) × (node nodes i ≡ node nodes (room + s))
+      → (s : ℕ) × (s < room) × (tree_node nodes i ≡ tree_node nodes (room + s))
   leaf_below zero i le one lt = absurd (omega arith)
   leaf_below (suc more) i le one lt = elim (cases_lt i room) [
-    | inr leaf ↦ (i - room, omega arith, ap (node nodes) (omega arith))
+    | inr leaf ↦ (i - room, omega arith, ap (tree_node nodes) (omega arith))
     | inl inner ↦
         let h = tree.inner i one inner (λ e. absurd (omega arith)) in
-        elim (cases_lt (node nodes (2 * i)) (node nodes (2 * i + 1))) [
+        elim (cases_lt (tree_node nodes (2 * i)) (tree_node nodes (2 * i + 1))) [
           | inl less ↦
               let found = leaf_below more (2 * i) (omega arith) (omega arith) (omega arith) in
-              let is : node nodes i ≡ node nodes (2 * i) = omega arith in
+              let is : tree_node nodes i ≡ tree_node nodes (2 * i) = omega arith in
               (found.0, found.1, is ∙ found.2)
           | inr no_less ↦
               let found = leaf_below more (2 * i + 1) (omega arith) (omega arith) (omega arith) in
-              let is : node nodes i ≡ node nodes (2 * i + 1) = omega arith in
+              let is : tree_node nodes i ≡ tree_node nodes (2 * i + 1) = omega arith in
               (found.0, found.1, is ∙ found.2)
         ]
   ]
@@ -90,23 +90,23 @@ pub record IsLowest (flags : List Bool) (slot : ℕ) : Type 0 where
 
 module _ (nodes : List ℕ) (room len total : ℕ) (keeps : KeepsFree nodes room len total) where
   -- a leaf of a slot has its own number, or that of no slot
-  leaf_cases : (s : ℕ) → s < room → ((s < len) × (node nodes (room + s) ≡ s)) ⊎ (node nodes (room + s) ≡ NO_SLOT)
+  leaf_cases : (s : ℕ) → s < room → ((s < len) × (tree_node nodes (room + s) ≡ s)) ⊎ (tree_node nodes (room + s) ≡ NO_SLOT)
   leaf_cases s lt = elim (cases_lt s len) [
     | inr past ↦ inr (keeps.none s past lt)
-    | inl slot ↦ elim (cases_eq (node nodes (room + s)) s) [
+    | inl slot ↦ elim (cases_eq (tree_node nodes (room + s)) s) [
       | inl own ↦ inl (slot, own)
       | inr other ↦ inr (keeps.leaves s slot other)
     ]
   ]
 
   -- no leaf of a free slot has less than the root
-  root-le_leaf : (s : ℕ) → s < len → node nodes (room + s) ≡ s → node nodes 1 ≤ s
+  root-le_leaf : (s : ℕ) → s < len → tree_node nodes (room + s) ≡ s → tree_node nodes 1 ≤ s
   root-le_leaf s lt own =
       let w = keeps.within in
       let h = root-le_by nodes room keeps.tree (room + s) (room + s) (omega arith) (omega arith) (omega arith) in
       omega (arith, h, own)
 
-  pub IsLowest-root : 0 < length (free_places (flags_in nodes room len)) → IsLowest (flags_in nodes room len) (node nodes 1)
+  pub IsLowest-root : 0 < length (free_places (flags_in nodes room len)) → IsLowest (flags_in nodes room len) (tree_node nodes 1)
   IsLowest-root some =
       let found = free_place 0 (flags_in nodes room len) some in
       let own = flags_in-own nodes room len found.0 found.1 in
@@ -117,7 +117,7 @@ module _ (nodes : List ℕ) (room len total : ℕ) (keeps : KeepsFree nodes room
       elim (leaf_cases from.0 from.1) [
         | inr none ↦ absurd (omega (arith, from.2, none, least, own.0))
         | inl is ↦
-            let root : node nodes 1 ≡ from.0 = from.2 ∙ is.1 in
+            let root : tree_node nodes 1 ≡ from.0 = from.2 ∙ is.1 in
             rw root (record {
               free =
                   let there : from.0 < length (flags_in nodes room len) = omega (arith, length-flags_in nodes room len, is.0) in
@@ -146,7 +146,7 @@ module _ (old new : List ℕ) (room slot value : ℕ) (tree : IsTree new room) (
               ap (λ k. get_or (set flags slot (value == slot)) k false) same
               ∙ get_or-set_same flags slot (value == slot) false there
               ∙ ap (λ v. v == slot) (sym leaf.this)
-              ∙ ap (λ k. node new (room + k) == k) (sym same)
+              ∙ ap (λ k. tree_node new (room + k) == k) (sym same)
           | inr other ↦
               let w = keeps.within in
               get_or-set_other flags slot s (value == slot) false other
@@ -162,7 +162,7 @@ module _ (old new : List ℕ) (room slot value : ℕ) (tree : IsTree new room) (
       numbers = keeps.numbers;
       leaves = λ s below other. let w = keeps.within in elim (cases_eq s slot) [
         | inl same ↦
-            let here : node new (room + s) ≡ value = ap (λ k. node new (room + k)) same ∙ leaf.this in
+            let here : tree_node new (room + s) ≡ value = ap (λ k. tree_node new (room + k)) same ∙ leaf.this in
             here ∙ is (λ v. other (here ∙ v ∙ sym same))
         | inr apart ↦
             let here = leaf.others s (omega arith) apart in
@@ -199,7 +199,7 @@ pub record TookLowest (old new : List ℕ) (room len total slot : ℕ) : Type 0 
   pub free : slice_get (flags_in old room len) slot ≡ Some true
   pub flags : flags_in new room len ≡ set (flags_in old room len) slot false
 
-pub TookLowest-leaf : (old new : List ℕ) (room len total slot : ℕ) → slot ≡ node old 1 → IsTree new room
+pub TookLowest-leaf : (old new : List ℕ) (room len total slot : ℕ) → slot ≡ tree_node old 1 → IsTree new room
     → LeafSet slot NO_SLOT room old new → KeepsFree old room len total → 0 < length (free_places (flags_in old room len))
     → TookLowest old new room len total slot
 TookLowest-leaf old new room len total slot is tree leaf keeps some =
@@ -237,7 +237,7 @@ Added-leaf old new room len total fits small tree leaf keeps =
     sym (flags_in-by new room (len + 1) (before ++ true ∷ []) (length_push before true ∙ ap (λ n. n + 1) size)
     (λ s lt. elim (cases_eq s len) [
       | inl same ↦
-          let here : node new (room + s) ≡ s = ap (λ k. node new (room + k)) same ∙ leaf.this ∙ sym same in
+          let here : tree_node new (room + s) ≡ s = ap (λ k. tree_node new (room + k)) same ∙ leaf.this ∙ sym same in
           get_or_push before true false s (size ∙ sym same) ∙ sym (eq-eqb _ _ here)
       | inr other ↦
           let lt' : s < len = omega arith in
@@ -253,7 +253,7 @@ Added-leaf old new room len total fits small tree leaf keeps =
         within = omega arith;
         numbers = omega arith;
         leaves = λ s lt other. elim (cases_eq s len) [
-          | inl same ↦ absurd (other (ap (λ k. node new (room + k)) same ∙ leaf.this ∙ sym same))
+          | inl same ↦ absurd (other (ap (λ k. tree_node new (room + k)) same ∙ leaf.this ∙ sym same))
           | inr apart ↦
               let here = leaf.others s (omega arith) apart in
               here ∙ keeps.leaves s (omega arith) (λ own. other (here ∙ own))
@@ -332,7 +332,7 @@ module _ (old : List ℕ) (room len total : ℕ) (flags : List Bool) (keeps : Ke
     put_back-flags slot at leaf =
         rw same ((PutBack-leaf old new room len total slot tree leaf keeps (rw is at)).flags ∙ ap (λ xs. set xs slot true) is)
 
-    module _ (slot : ℕ) (low : slot ≡ node old 1) (some : 0 < length (free_places flags)) (leaf : LeafSet slot NO_SLOT room old new) where
+    module _ (slot : ℕ) (low : slot ≡ tree_node old 1) (some : 0 < length (free_places flags)) (leaf : LeafSet slot NO_SLOT room old new) where
       took : TookLowest old new room len total slot
       took = TookLowest-leaf old new room len total slot low tree leaf keeps (rw is some)
 
@@ -346,7 +346,7 @@ module _ (old : List ℕ) (room len total : ℕ) (flags : List Bool) (keeps : Ke
       taken-flags = rw same (took.flags ∙ ap (λ xs. set xs slot false) is)
 
   -- what is lowest is free
-  pub lowest_free : (slot : ℕ) → slot ≡ node old 1 → 0 < length (free_places flags) → slice_get flags slot ≡ Some true
+  pub lowest_free : (slot : ℕ) → slot ≡ tree_node old 1 → 0 < length (free_places flags) → slice_get flags slot ≡ Some true
   lowest_free slot low some =
       let there : 0 < length (free_places (flags_in old room len)) = rw is some in
       rw (low, ← is) (IsLowest-root old room len total keeps there).free

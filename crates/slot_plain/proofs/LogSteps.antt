@@ -8,10 +8,10 @@ use Rattle.fs_types.specs.Pieces.{Piece}
 use Rattle.fs_types.specs.Faults.{HasRisen, next_count}
 use Rattle.fs_dev.specs.SpillDev.{Wrote, LeftOpen, WasWritten, HoldsAt}
 use Rattle.slot_plain.specs.Slots.{StoredPiece, Slot, free_slot, pinned, released, filled, slot_at, free_slots, held_count, with_taken}
-use Rattle.slot_plain.specs.Slots.{bytes_in, HasPieceOf}
+use Rattle.slot_plain.specs.Slots.{bytes_of_slot, HasPieceOf}
 use Rattle.slot_plain.specs.Entries.{Table}
 use Rattle.slot_plain.specs.Log.{DeviceState, Log, spill_place, bytes_from, told_in, told_piece, told_slot, told_slots, log_of, Backs}
-use Rattle.slot_plain.specs.Log.{WroteTo, Fills, FailsToFill}
+use Rattle.slot_plain.specs.Log.{WroteToSlot, Fills, FailsToFill}
 use Rattle.slot_plain.proofs.Cells.{LeftOpen-other, Wrote-same, WasWritten-part, HoldsAt-part}
 use Rattle.slot_plain.proofs.Logs.{slot_at-told, told-set, told-with_taken, free_slots-told, held_count-told, told-released}
 use Rattle.slot_plain.proofs.Logs.{told-in_memory, told-spilled, told-alike, ranges_apart, place_within, Backs-set, Backs-with_taken}
@@ -31,7 +31,7 @@ fills_from : (n : ℕ) (id : Piece) (text : List ℕ) (log now : Log) (device : 
       slots = set log.slots n (filled (record { id = id; len = length text; bytes = told_in log n text }) (slot_at log.slots n));
       device = device;
     }
-    → MatchBool (nat_lt n log.shmem) (device ≡ log.device) (WroteTo (spill_place log.shmem log.chunk n) text log.device device)
+    → MatchBool (nat_lt n log.shmem) (device ≡ log.device) (WroteToSlot (spill_place log.shmem log.chunk n) text log.device device)
     → Fills n id text log now
 fills_from n id text log now device is does =
     subst (Fills n id text log) (sym is) (record { slots = refl; device = does; rest = refl })
@@ -309,7 +309,7 @@ module _ (rank : ℕ) (t : Table) (device : DeviceState) (faults : ℕ) (log : L
                 let out : nat_lt n log.shmem ≡ false = le-ltb n log.shmem (omega arith) in
                 let whole : List Slot = set log.slots n (filled (record { id = id; len = length text; bytes = told_in log n text })
                 (slot_at log.slots n)) in
-                let to : WroteTo (spill_place log.shmem log.chunk n) text log.device device' = record {
+                let to : WroteToSlot (spill_place log.shmem log.chunk n) text log.device device' = record {
                   bytes = subst (λ (d : DeviceState). Wrote (spill_place log.shmem log.chunk n) text d.cells device'.cells) dev
                       (subst (λ (k : ℕ). Wrote (spill_place log.shmem k n) text device.cells device'.cells) bytes
                       (subst (λ (k : ℕ). Wrote (spill_place k t.chunk n) text device.cells device'.cells) mem wrote));
@@ -342,11 +342,11 @@ module _ (rank : ℕ) (t : Table) (device : DeviceState) (faults : ℕ) (log : L
 
       -- from shared memory
       pub read_log : (out : List ℕ) → nat_lt n t.shmem ≡ true
-          → IfSome (bytes_in (slot_at t.slots n)) (λ bytes. out ≡ slice_range bytes from (from + size))
-          → IfSome (bytes_in (slot_at log.slots n)) (λ bytes. out ≡ slice_range bytes from (from + size))
+          → IfSome (bytes_of_slot (slot_at t.slots n)) (λ bytes. out ≡ slice_range bytes from (from + size))
+          → IfSome (bytes_of_slot (slot_at log.slots n)) (λ bytes. out ≡ slice_range bytes from (from + size))
       read_log out in_memory given =
           let same = slot_is n ∙ told-in_memory t.shmem t.chunk device.cells n (slot_at t.slots n) (ltb-true n t.shmem in_memory) in
-          subst (λ (s : Slot). IfSome (bytes_in s) (λ bytes. out ≡ slice_range bytes from (from + size))) (sym same) given
+          subst (λ (s : Slot). IfSome (bytes_of_slot s) (λ bytes. out ≡ slice_range bytes from (from + size))) (sym same) given
 
       -- from the device
       module _ (behind : nat_lt n t.shmem ≡ false) where
@@ -367,12 +367,12 @@ module _ (rank : ℕ) (t : Table) (device : DeviceState) (faults : ℕ) (log : L
             (backs.written n p.0 (ltb-false n t.shmem behind) p.1)
 
         pub read_given : (out : List ℕ) → length out ≡ size → HoldsAt (spill_place t.shmem t.chunk n + from) out device.cells
-            → IfSome (bytes_in (slot_at log.slots n)) (λ bytes. out ≡ slice_range bytes from (from + size))
+            → IfSome (bytes_of_slot (slot_at log.slots n)) (λ bytes. out ≡ slice_range bytes from (from + size))
         read_given out whole holds =
             let p = the_piece in
             let le = ltb-false n t.shmem behind in
             let part = HoldsAt-part (spill_place t.shmem t.chunk n) p.0.len from out device.cells (omega (arith, p.2, whole)) holds in
-            let told = ap (λ (s : Slot). bytes_in s) (slot_is n)
+            let told = ap (λ (s : Slot). bytes_of_slot s) (slot_is n)
             ∙ ap (λ o. option_and_then (λ (q : StoredPiece). q.bytes) (option_map (told_piece t.shmem t.chunk device.cells n) o)) p.1
             ∙ ap (λ (q : StoredPiece). q.bytes) (told-spilled t.shmem t.chunk device.cells n p.0 le) in
             subst (λ (o : Option (List ℕ)). IfSome o (λ bytes. out ≡ slice_range bytes from (from + size))) (sym told)

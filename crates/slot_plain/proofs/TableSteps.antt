@@ -7,7 +7,7 @@ use Rattle.std.proofs.lemmas.List.{length-set, length-map, length-append}
 use Rattle.std.proofs.lemmas.Option.{slice_get_within, slice_get-map, slice_get_cases}
 use Rattle.std.specs.Option.{option_map}
 use Rattle.slot_plain.specs.FreePlaces.{free_places, free_from}
-use Rattle.slot_plain.specs.Slots.{Slot, free_slot, taken_slot, pinned, released, filled, bytes_in, HasPieceOf, slot_at, free_slots}
+use Rattle.slot_plain.specs.Slots.{Slot, free_slot, taken_slot, pinned, released, filled, bytes_of_slot, HasPieceOf, slot_at, free_slots}
 use Rattle.slot_plain.specs.Slots.{is_free, with_taken}
 use Rattle.slot_plain.specs.Entries.{Table, table_of, entry_slot, slots_of, is_unheld, IsEntry, AreEntries}
 use Rattle.slot_plain.specs.declared.entry.Entry.{Entry}
@@ -210,10 +210,10 @@ module _ (shmem chunk total : ℕ) (free : List Bool) (entries : List Entry) (ar
           omega (arith, fits, buffer, bytes, read_piece.2)
 
       pub read_bytes : (out : List ℕ) → out ≡ slice_range now.buffer.items from (from + size)
-          → IfSome (bytes_in (slot_at table.slots n)) (λ bytes. out ≡ slice_range bytes from (from + size))
+          → IfSome (bytes_of_slot (slot_at table.slots n)) (λ bytes. out ≡ slice_range bytes from (from + size))
       read_bytes out is =
-          subst (λ (s : Slot). IfSome (bytes_in s) (λ bytes. out ≡ slice_range bytes from (from + size))) (sym slot_is)
-          (subst (λ (o : Option FilledPiece). IfSome (bytes_in (entry_slot (record { count = now.count; piece = o; buffer = now.buffer })))
+          subst (λ (s : Slot). IfSome (bytes_of_slot s) (λ bytes. out ≡ slice_range bytes from (from + size))) (sym slot_is)
+          (subst (λ (o : Option FilledPiece). IfSome (bytes_of_slot (entry_slot (record { count = now.count; piece = o; buffer = now.buffer })))
           (λ bytes. out ≡ slice_range bytes from (from + size))) (sym read_piece.1)
           (is ∙ sym (slice_range-take read_piece.0.len now.buffer.items from (from + size) read_piece.2)))
 

@@ -1,10 +1,10 @@
 -- Slots that were taken: as many as were wanted, each held once, and the others as they were.
 use Rattle.std.proofs.Common.{◌≡◌, ℕ, suc, zero, ◌+◌, ◌≤◌, ◌<◌, Bool, true, false, All, Contains, List, [], ◌∷◌, length, get_or, take}
-use Rattle.std.proofs.Common.{map, set, min, arith, sym, ◌∙◌, ap, refl, ◌⊎◌, inl, inr, subst}
+use Rattle.std.proofs.Common.{map, set, arith, sym, ◌∙◌, ap, refl, inl, inr, subst}
 use Rattle.std.proofs.lemmas.List.{length-take, length-map, length-set}
 use Rattle.std.proofs.lemmas.List.Elements.{All-take}
 use Rattle.slot_plain.specs.FreePlaces.{free_from}
-use Rattle.slot_plain.specs.Slots.{Slot, free_slot, taken_slot, is_free, slot_at, free_slots, with_taken}
+use Rattle.slot_plain.specs.Slots.{Slot, taken_slot, is_free, slot_at, free_slots, with_taken}
 use Rattle.slot_plain.proofs.Logs.{slot_at-set}
 
 -- what is free is one of the places

@@ -71,7 +71,7 @@ abbrev pub told_in : Log → ℕ → List ℕ → Option (List ℕ)
 told_in log n bytes = if nat_lt n log.shmem then Some bytes else option_map (λ _. bytes) log.device.cells
 
 -- a device took these bytes from a place on, and nothing else changed
-pub record WroteTo (at : ℕ) (text : List ℕ) (old new : DeviceState) : Type 0 where
+pub record WroteToSlot (at : ℕ) (text : List ℕ) (old new : DeviceState) : Type 0 where
   pub bytes : Wrote at text old.cells new.cells
   pub rest : new ≡ record { size = old.size; cells = new.cells; faults = old.faults }
 
@@ -80,7 +80,7 @@ pub record Fills (n : ℕ) (id : Piece) (text : List ℕ) (old new : Log) : Type
   pub slots : new.slots ≡ slice_set old.slots n
       (filled (record { id = id; len = length text; bytes = told_in old n text }) (slot_at old.slots n))
   pub device : MatchBool (nat_lt n old.shmem) (new.device ≡ old.device)
-      (WroteTo (spill_place old.shmem old.chunk n) text old.device new.device)
+      (WroteToSlot (spill_place old.shmem old.chunk n) text old.device new.device)
   pub rest : new ≡ record old { slots = new.slots; device = new.device }
 
 -- a write of len bytes to the device failed, so that slot n, which is behind shared memory, was not filled

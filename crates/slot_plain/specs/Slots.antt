@@ -36,8 +36,8 @@ abbrev pub released : Slot → Slot
 released s = if s.count == 1 then free_slot else record { count = s.count - 1; piece = s.piece }
 
 -- the bytes of a slot's piece, where it has one and they are told
-abbrev pub bytes_in : Slot → Option (List ℕ)
-bytes_in s = option_and_then (λ p. p.bytes) s.piece
+abbrev pub bytes_of_slot : Slot → Option (List ℕ)
+bytes_of_slot s = option_and_then (λ p. p.bytes) s.piece
 
 -- a slot has a piece of at least so many bytes
 abbrev pub HasPieceOf : Slot → ℕ → Type 0

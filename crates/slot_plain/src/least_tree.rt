@@ -2,7 +2,7 @@
 //! and touch nothing else.
 
 ghost use Rattle.std.specs.Prelude.{◌≡◌, ◌≢◌, ℕ, ◌+◌, ◌*◌, ◌/◌, ◌^◌, ◌≤◌, ◌<◌, IfOk, OnOk, length};
-ghost use Rattle.slot_plain.specs.LeastTree.{node, HasLesser, IsTree, IsTreeBut, LeafSet, Widens};
+ghost use Rattle.slot_plain.specs.LeastTree.{tree_node, HasLesser, IsTree, IsTreeBut, LeafSet, Widens};
 
 use fs_types::Want;
 use std::alloc::Global;
@@ -16,7 +16,7 @@ fn settle_from(tree: &mut [u32], room: usize, leaf: usize)
     requires leaf { leaf < 2 * room }
     requires tree { IsTreeBut (leaf / 2) tree.old room }
     ensures tree { IsTree tree.new room }
-    ensures leaves { (i : ℕ) → room ≤ i → node tree.new i ≡ node tree.old i }
+    ensures leaves { (i : ℕ) → room ≤ i → tree_node tree.new i ≡ tree_node tree.old i }
 {
     let mut at = leaf / 2;
     while at > 0 {
@@ -29,7 +29,7 @@ fn settle_from(tree: &mut [u32], room: usize, leaf: usize)
 fn settle(tree: &mut [u32], room: usize)
     requires { length tree.old ≡ 2 * room }
     ensures tree { IsTree tree.new room }
-    ensures leaves { (i : ℕ) → room ≤ i → node tree.new i ≡ node tree.old i }
+    ensures leaves { (i : ℕ) → room ≤ i → tree_node tree.new i ≡ tree_node tree.old i }
 {
     let mut at = room;
     while at > 1 {
@@ -75,7 +75,7 @@ impl LeastTree {
     /// The least number of all leaves.
     pub fn least(&self) -> u32
         requires { 1 < length self.now.nodes.items }
-        ensures { result ≡ node self.now.nodes.items 1 }
+        ensures { result ≡ tree_node self.now.nodes.items 1 }
     {
         self.nodes[1]
     }

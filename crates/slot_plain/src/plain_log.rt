@@ -1,7 +1,7 @@
 //! One client's log on one thread: its slots, and the device behind shared memory.
 
 ghost use Rattle.std.specs.Prelude.{◌≡◌, ℕ, All, Contains, ◌+◌, ◌-◌, ◌*◌, ◌^◌, ◌<◌, ◌≤◌, length, take, slice_range, None, Err, IsOk, IfSome, IfOk, IfErr, OnOk, OnErr, slice_set, replicate};
-ghost use Rattle.slot_plain.specs.Slots.{slot_at, free_slots, held_count, free_slot, taken_slot, with_taken, pinned, released, bytes_in, HasPieceOf};
+ghost use Rattle.slot_plain.specs.Slots.{slot_at, free_slots, held_count, free_slot, taken_slot, with_taken, pinned, released, bytes_of_slot, HasPieceOf};
 ghost use Rattle.slot_plain.specs.Log.{Fills, FailsToFill, FailsToRead};
 ghost use Rattle.slot_plain.specs.TakeNo.{IsTakeNo};
 
@@ -43,7 +43,7 @@ impl<D: SpillDev + Drop> Model for PlainLog<D> {
 
 impl<D: SpillDev + Drop> PlainLog<D> {
     /// The log of a client of a job of this shape, whose slots are all free.
-    pub fn new(_alloc: Global, rank: Rank, shape: Shape, dev: D) -> Result<PlainLog<D>, Want>
+    pub fn new(alloc: Global, rank: Rank, shape: Shape, dev: D) -> Result<PlainLog<D>, Want>
         requires slots { shape.shmem + shape.spill < 2 ^ 32 }
         requires device { shape.spill * shape.chunk ≤ D.size dev }
         ensures { IfOk result (λ log. log ≡ record {
@@ -57,7 +57,7 @@ impl<D: SpillDev + Drop> PlainLog<D> {
     {
         Ok(PlainLog {
             rank,
-            table: SlotTable::new(_alloc, shape),
+            table: SlotTable::new(alloc, shape),
             dev,
             faults: 0,
         })
@@ -157,7 +157,7 @@ impl<D: SpillDev + Drop> PlainLog<D> {
     /// device, which can fail.
     pub fn read_piece(&mut self, slot: u32, from: u32, out: &mut [u8]) -> Result<(), DevFault>
         requires { HasPieceOf (slot_at self.old.slots slot) (from + length out.old) }
-        ensures given { OnOk result (IfSome (bytes_in (slot_at self.old.slots slot))
+        ensures given { OnOk result (IfSome (bytes_of_slot (slot_at self.old.slots slot))
             (λ bytes. out.new ≡ slice_range bytes from (from + length out.old))) }
         ensures ok { OnOk result (self.new ≡ self.old) }
         ensures err { OnErr result (FailsToRead slot self.old self.new) }

@@ -2,7 +2,7 @@
 //! in shared memory. It touches nothing outside memory.
 
 ghost use Rattle.std.specs.Prelude.{◌≡◌, nat_lt, ◌+◌, ◌-◌, ◌^◌, ◌<◌, ◌≤◌, [], ◌∷◌, length, take, slice_range, Some, IfSome, IfOk, OnOk, OnErr, slice_set, replicate, vec_capacity};
-ghost use Rattle.slot_plain.specs.Slots.{slot_at, free_slots, held_count, free_slot, taken_slot, with_taken, pinned, released, filled, bytes_in, HasPieceOf};
+ghost use Rattle.slot_plain.specs.Slots.{slot_at, free_slots, held_count, free_slot, taken_slot, with_taken, pinned, released, filled, bytes_of_slot, HasPieceOf};
 ghost use Rattle.slot_plain.specs.Entries.{IsFilled};
 ghost use Rattle.slot_plain.specs.Log.{spill_place};
 ghost use Rattle.slot_plain.specs.declared.least_tree.TheConstants.{NO_SLOT};
@@ -253,7 +253,7 @@ impl SlotTable {
     pub fn read(&self, slot: u32, from: u32, out: &mut [u8])
         requires in_memory { slot < self.now.shmem }
         requires inside { HasPieceOf (slot_at self.now.slots slot) (from + length out.old) }
-        ensures { IfSome (bytes_in (slot_at self.now.slots slot))
+        ensures { IfSome (bytes_of_slot (slot_at self.now.slots slot))
             (λ bytes. out.new ≡ slice_range bytes from (from + length out.old)) }
     {
         copy_part(&self.entries[slot as usize].buffer, from as usize, out);

@@ -3,7 +3,7 @@ use Rattle.fs_types.proofs.Common.{◌≡◌, ℕ, zero, suc, List, [], ◌∷�
 use Rattle.fs_script.specs.Vocabulary.{op_at, ArePaths, IsLegal}
 use Rattle.core_machine.specs.Vocabulary.{OpLine, IsFirst, report_of, Turn, HasClients, Reaches}
 use Rattle.fs_script.proofs.CallerLemmas.{five_lines, path_a, on_a}
-use Rattle.core_machine.proofs.Five.Events.{start, ended, turn}
+use Rattle.core_machine.proofs.Five.FiveEvents.{start, ended, turn}
 use Rattle.core_machine.proofs.Legal.Runs.{runs-legal}
 
 -- every operation is the one client's, on the one path

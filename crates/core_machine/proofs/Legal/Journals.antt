@@ -4,7 +4,7 @@ use Rattle.fs_types.proofs.Common.{common_steps, ◌≡◌, ◌≢◌, ℕ, fals
 use Rattle.fs_types.proofs.Common.{ap, ◌∙◌, subst, inl, inr, arith, cases_Bool, Contains-tail, bytes_eq-Decides}
 use Rattle.fs_script.specs.Vocabulary.{journal_of, Pushes}
 use Rattle.core_machine.specs.Vocabulary.{with_entry}
-use Rattle.core_machine.proofs.Paths.{same_bytes, other_bytes}
+use Rattle.fs_script.proofs.CallerLemmas.{same_bytes, other_bytes}
 
 -- the paths stay
 pub paths-with_entry : (p : List ℕ) (n : ℕ) (js : List (List ℕ × List ℕ)) → map (λ j. j.0) (with_entry p n js) ≡ map (λ j. j.0) js

@@ -5,7 +5,7 @@ use Rattle.fs_script.specs.Vocabulary.{at_least, AddsAnswer}
 use Rattle.core_machine.specs.Vocabulary.{Op, OpLine, OwnedPath, ClientPath, known_of, AreSound, known_from, Follows, kept_event, Knows}
 use Rattle.core_machine.specs.Vocabulary.{StandsForOwner, StandsForClient, script_end}
 use Rattle.fs_script.proofs.CallerLemmas.{over_answers-agree, AgreeBefore-next}
-use Rattle.core_machine.proofs.Refines.Answers.{AgreeBefore-elsewhere, IsOpenFrom, IsOpenFrom-answered, over_answers-until}
+use Rattle.core_machine.proofs.Refines.NextAnswers.{AgreeBefore-elsewhere, IsOpenFrom, IsOpenFrom-answered, over_answers-until}
 use Rattle.core_machine.proofs.Refines.Owners.{IsNewAnswer, grown, length-grown, state-grown, told-within}
 
 -- the owner's journal after an event is the one before, perhaps with the line at its end

@@ -6,7 +6,7 @@ use Rattle.fs_types.proofs.Common.{get_or_from_slice_get}
 use Rattle.fs_script.specs.Vocabulary.{Given, answer_at, Job, Answering, ArePaths}
 use Rattle.core_machine.specs.Vocabulary.{OwnedPath, ClientPath, PathState, IsFreshOwner, IsFreshClient, IsFreshPath, HasClients, IsFirst}
 use Rattle.core_machine.specs.Vocabulary.{Places, client_at, moment_of, Holds, Stands, StandsForOwner, StandsForClient, script_end}
-use Rattle.core_machine.proofs.Refines.Answers.{over_answers-until}
+use Rattle.core_machine.proofs.Refines.NextAnswers.{over_answers-until}
 use Rattle.core_machine.proofs.Refines.JournalsKept.{journal_kept}
 
 abbrev none : Answering

@@ -6,7 +6,7 @@ use Rattle.fs_types.proofs.Common.{get_or_from_slice_get}
 use Rattle.fs_script.specs.Vocabulary.{AreRising}
 use Rattle.fs_script.proofs.CallerLemmas.{slice_get-map_some}
 use Rattle.core_machine.specs.Vocabulary.{PathState, with_entry, journals_of}
-use Rattle.core_machine.proofs.Paths.{not_among, same_bytes, other_bytes}
+use Rattle.fs_script.proofs.CallerLemmas.{not_among, same_bytes, other_bytes}
 use Rattle.core_machine.proofs.Refines.Owners.{grown}
 
 -- ---- journals beside their paths

@@ -8,9 +8,9 @@ use Rattle.fs_script.specs.Vocabulary.{pending}
 use Rattle.core_machine.specs.Vocabulary.{OpLine, PathState, ClientPath, AreSound, pending_lines, Follows, kept_event, Places}
 use Rattle.core_machine.specs.Vocabulary.{IsAnsweredUpTo, after_line, Holds, Stands, StandsForOwner, StandsForClient, script_end}
 use Rattle.fs_script.proofs.CallerLemmas.{AddsAnswer-put, own_op-rank, op_at-within, program-op, slice_get-set_same, slice_get-set_other}
-use Rattle.core_machine.proofs.Paths.{place_unique}
+use Rattle.fs_script.proofs.CallerLemmas.{place_unique}
 use Rattle.core_machine.proofs.Places.{StandsNext, comes_next, upto-own, upto-other}
-use Rattle.core_machine.proofs.Refines.Answers.{IsOpenFrom-next, over_answers-until}
+use Rattle.core_machine.proofs.Refines.NextAnswers.{IsOpenFrom-next, over_answers-until}
 use Rattle.core_machine.proofs.Refines.Owners.{IsNewAnswer, StandsForOwner-own, StandsForOwner-other}
 use Rattle.core_machine.proofs.Refines.Clients.{Grows, IsOwn, StandsForClient-own, StandsForClient-other}
 

@@ -6,7 +6,7 @@ use Rattle.fs_script.specs.Vocabulary.{Answer, Given, put_answer, Job, program, 
 use Rattle.core_machine.specs.Vocabulary.{PathState, Client, Moment, fresh_client, client_of, next_line, Event, PathNow, event_of, event_at}
 use Rattle.core_machine.specs.Vocabulary.{after_turn, step, path_now, kept_event, Places, client_at, journals_of, moment_of, after_line}
 use Rattle.fs_script.proofs.CallerLemmas.{slice_get-map_some}
-use Rattle.core_machine.proofs.Paths.{journal_of-zip}
+use Rattle.fs_script.proofs.CallerLemmas.{journal_of-zip}
 use Rattle.core_machine.proofs.Refines.JournalsKept.{journal_kept, journals_of-set}
 use Rattle.core_machine.proofs.Refines.Now.{kept_now-is}
 use Rattle.core_machine.proofs.Refines.LinesAnswered.{Answered, given, is_own, stood, client_stood}

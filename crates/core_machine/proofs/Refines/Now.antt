@@ -3,7 +3,7 @@ use Rattle.fs_types.proofs.Common.{common_steps, ◌≡◌, ℕ, max, leb, refl,
 use Rattle.fs_script.specs.Vocabulary.{Job, phase, Answering, state, seen, front, of_earlier_phases}
 use Rattle.core_machine.specs.Vocabulary.{OpLine, Noted, OwnedPath, ClientPath, PathNow, known_of, kept_now, known_from, later_of}
 use Rattle.core_machine.specs.Vocabulary.{StandsForOwner, StandsForClient, script_end, path_now}
-use Rattle.core_machine.proofs.Refines.Answers.{over_answers-until}
+use Rattle.core_machine.proofs.Refines.NextAnswers.{over_answers-until}
 use Rattle.core_machine.proofs.Refines.Clients.{IsOwn}
 
 later-version : (a b : Noted) → (later_of a b).version ≡ max a.version b.version

@@ -7,7 +7,7 @@ use Rattle.fs_script.specs.Vocabulary.{effect_in, state, AddsAnswer, ComesNext}
 use Rattle.core_machine.specs.Vocabulary.{OpLine, OwnedPath, ClientPath, known_of, AreSound, file_of, known_from, pending_lines, Follows}
 use Rattle.core_machine.specs.Vocabulary.{kept_event, StandsForOwner}
 use Rattle.fs_script.proofs.CallerLemmas.{state_in-push, state_in-push_last, pending_at-next, AllByRecursion-weaker, AllByRecursion-push}
-use Rattle.core_machine.proofs.Refines.Answers.{state-answered}
+use Rattle.core_machine.proofs.Refines.NextAnswers.{state-answered}
 
 -- line n, the operation o of the run's phase, comes next and is answered a
 pub record IsNewAnswer (s : Job) (A : Answering) (now n : ℕ) (o : OpLine) (a : Answer) (B : Answering) : Type 0 where

@@ -4,10 +4,10 @@ use Rattle.fs_types.proofs.Common.{◌∙◌, arith, slice_get, Contains, slice_
 use Rattle.fs_script.specs.Vocabulary.{Given, answer_at, Job, state, AreRising, journal_of}
 use Rattle.core_machine.specs.declared.owner_files.OwnerFiles.{OwnerFiles}
 use Rattle.core_machine.specs.OwnerFiles.{owned_at}
-use Rattle.core_machine.specs.States.{AreKept, states_of}
+use Rattle.core_machine.specs.PathStates.{AreKept, states_of}
 use Rattle.core_machine.specs.Vocabulary.{ClientPath, OwnedPath, PathState, file_of, file_now, Places, journals_of, moment_of, Holds, Stands}
 use Rattle.fs_script.proofs.CallerLemmas.{AllByRecursion-from_contained, slice_get-map_some, slice_get-some}
-use Rattle.core_machine.proofs.Paths.{journal_of-zip, journal_of-absent}
+use Rattle.fs_script.proofs.CallerLemmas.{journal_of-zip, journal_of-absent}
 use Rattle.core_machine.proofs.Refines.JournalsKept.{journal_kept}
 use Rattle.core_machine.proofs.Refines.StatesOfPaths.{states-at}
 

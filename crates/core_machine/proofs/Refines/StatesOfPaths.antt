@@ -4,12 +4,12 @@ use Rattle.fs_types.proofs.Common.{Option, Some, None, IsSome, Vec, bytes_eq, re
 use Rattle.fs_types.proofs.Common.{is_lt, is_some, slice_cmp, nat_cmp, none-some, same_Some}
 use Rattle.std.specs.Option.{option_map}
 use Rattle.fs_script.specs.Vocabulary.{AreRising}
-use Rattle.core_machine.specs.Vocabulary.{ClientPath, OwnedPath, IsFreshOwner, IsFreshPath, told, with_board}
+use Rattle.core_machine.specs.Vocabulary.{ClientPath, OwnedPath, IsFreshOwner, IsFreshPath, owner_told, with_board}
 use Rattle.core_machine.specs.Kept.{AreFreshClients}
 use Rattle.core_machine.specs.declared.owner_files.OwnerFiles.{OwnerFiles}
 use Rattle.core_machine.specs.OwnerFiles.{owned_at, ChangesPath, AreFresh}
-use Rattle.core_machine.specs.States.{AreKept, states_of, with_state}
-use Rattle.core_machine.proofs.Paths.{not_among, same_bytes, other_bytes}
+use Rattle.core_machine.specs.PathStates.{AreKept, states_of, with_state}
+use Rattle.fs_script.proofs.CallerLemmas.{not_among, same_bytes, other_bytes}
 
 -- something is kept for each of the paths
 abbrev pub AllKept : (List ℕ → Option OwnedPath) → List (List ℕ) → Type 0
@@ -76,14 +76,14 @@ module _ {A : Type 0} where
 
   -- all clients are told of each path
   pub states-told : (at at' : List ℕ → Option OwnedPath) (ps : List (List ℕ)) (kept : List (Vec ClientPath A))
-      → ((q : List ℕ) → at' q ≡ option_map told (at q)) → states_of at' ps kept ≡ map with_board (states_of at ps kept)
+      → ((q : List ℕ) → at' q ≡ option_map owner_told (at q)) → states_of at' ps kept ≡ map with_board (states_of at ps kept)
   states-told at at' [] kept changes = refl
   states-told at at' (p ∷ ps) [] changes = refl
   states-told at at' (p ∷ ps) (k ∷ kept) changes =
       ap (λ r. with_state r k.items (states_of at' ps kept)) (changes p)
-      ∙ ap (with_state (option_map told (at p)) k.items) (states-told at at' ps kept changes) ∙ by (at p)
+      ∙ ap (with_state (option_map owner_told (at p)) k.items) (states-told at at' ps kept changes) ∙ by (at p)
     where
-      by : (r : Option OwnedPath) → with_state (option_map told r) k.items (map with_board (states_of at ps kept))
+      by : (r : Option OwnedPath) → with_state (option_map owner_told r) k.items (map with_board (states_of at ps kept))
           ≡ map with_board (with_state r k.items (states_of at ps kept))
       by None = refl
       by (Some x) = refl
@@ -114,7 +114,7 @@ module _ {A : Type 0} where
 
   -- or as all clients are told
   pub AreKept-told : {servers : ℕ} {paths : List (List ℕ)} {old new : List OwnerFiles} {kept : List (Vec ClientPath A)}
-      → length new ≡ length old → ((p : List ℕ) → owned_at new p ≡ option_map told (owned_at old p)) → AreKept servers paths old kept
+      → length new ≡ length old → ((p : List ℕ) → owned_at new p ≡ option_map owner_told (owned_at old p)) → AreKept servers paths old kept
       → AreKept servers paths new kept
   AreKept-told {old = old} size told_of all = record {
     lists = size ∙ all.lists;
@@ -122,7 +122,7 @@ module _ {A : Type 0} where
     filed = λ q there. subst IsSome (sym (told_of q)) (by (owned_at old q) (all.filed q there));
   }
     where
-      by : (r : Option OwnedPath) → IsSome r → IsSome (option_map told r)
+      by : (r : Option OwnedPath) → IsSome r → IsSome (option_map owner_told r)
       by None some = some
       by (Some x) some = refl
 

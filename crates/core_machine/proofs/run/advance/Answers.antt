@@ -1,7 +1,7 @@
 use Rattle.fs_types.proofs.Common.{◌<◌, sym, subst, with_items}
 use Rattle.core_machine.specs.Core.{states}
 use Rattle.core_machine.specs.OwnerFiles.{owned_at}
-use Rattle.core_machine.specs.States.{states_of}
+use Rattle.core_machine.specs.PathStates.{states_of}
 use Rattle.core_machine.specs.Vocabulary.{moment, Moment, events_left}
 use Rattle.core_machine.proofs.Refines.Goes.{ready-going, goes-some, nearer}
 use Rattle.core_machine.proofs.run.advance.Goals as goal

@@ -3,7 +3,7 @@ use Rattle.fs_types.proofs.Common.{refl, sym, ap, subst, arith, with_items, with
 use Rattle.fs_script.specs.Vocabulary.{Given, put_answer}
 use Rattle.core_machine.specs.Vocabulary.{ClientPath, PathState, IsSoundFor, moment_of, after_line, Holds}
 use Rattle.core_machine.specs.OwnerFiles.{owned_at}
-use Rattle.core_machine.specs.States.{states_of}
+use Rattle.core_machine.specs.PathStates.{states_of}
 use Rattle.fs_script.proofs.CallerLemmas.{AllByRecursion-from_contained, op_at-within, program-op, slice_get-some}
 use Rattle.core_machine.proofs.Refines.Goes.{goes-kept}
 use Rattle.core_machine.proofs.Refines.Moments.{step-is}

@@ -3,7 +3,7 @@ use Rattle.std.proofs.lemmas.List.Elements.{All-from_recursion}
 use Rattle.fs_script.proofs.CallerLemmas.{AllByRecursion-from_contained, IsOpLine-from_job}
 use Rattle.core_machine.specs.Kept.{AreFreshClients}
 use Rattle.core_machine.specs.OwnerFiles.{owned_at}
-use Rattle.core_machine.specs.States.{states_of}
+use Rattle.core_machine.specs.PathStates.{states_of}
 use Rattle.core_machine.specs.Vocabulary.{IsFreshPath}
 use Rattle.core_machine.proofs.Refines.First.{Holds-first, IsFirst-first}
 use Rattle.core_machine.proofs.Refines.StatesOfPaths.{AreKept-fresh, states-fresh, states-size}

@@ -1,9 +1,9 @@
 use Rattle.fs_types.proofs.Common.{◌≡◌, ◌∙◌, List, length, map, sym, ap, subst, arith, with_items, with_items_is}
 use Rattle.std.specs.Option.{option_map}
 use Rattle.core_machine.specs.Core.{states}
-use Rattle.core_machine.specs.Kept.{told}
+use Rattle.core_machine.specs.Kept.{owner_told}
 use Rattle.core_machine.specs.OwnerFiles.{owned_at}
-use Rattle.core_machine.specs.States.{AreKept, states_of}
+use Rattle.core_machine.specs.PathStates.{AreKept, states_of}
 use Rattle.core_machine.specs.declared.owner_files.OwnerFiles.{OwnerFiles}
 use Rattle.core_machine.specs.Vocabulary.{with_board, moment_of, after_line, Holds, Places}
 use Rattle.core_machine.proofs.Refines.StatesOfPaths.{AreKept-told, states-told}
@@ -18,8 +18,8 @@ owners-are c =
     with_items_is owners c.tell_all.new.owners
     (omega (arith, c.tell_all.ensures.sized, ap length c.deref_mut.ensures.value, owners.ok.0))
 
-told-as : (c : After-run-1) → (p : List _) → owned_at c.tell_all.new.owners p ≡ option_map told (owned_at c.args.run.now.owners.items p)
-told-as c p = c.tell_all.ensures.told p ∙ ap (λ (os : List OwnerFiles). option_map told (owned_at os p)) c.deref_mut.ensures.value
+told-as : (c : After-run-1) → (p : List _) → owned_at c.tell_all.new.owners p ≡ option_map owner_told (owned_at c.args.run.now.owners.items p)
+told-as c p = c.tell_all.ensures.told p ∙ ap (λ (os : List OwnerFiles). option_map owner_told (owned_at os p)) c.deref_mut.ensures.value
 
 -- what is kept for each path after all were told
 states-are : (c : After-run-1)

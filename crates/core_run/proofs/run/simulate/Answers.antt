@@ -1,7 +1,8 @@
 use Rattle.std.proofs.Common.{[], ap, sym, ◌∙◌}
 use Rattle.core_machine.specs.Moment.{Moment}
 use Rattle.fs_report.specs.declared.report.Report as kept
-use Rattle.core_run.proofs.PickedRuns.{IsLegal-run, IsLegal-under, IsPath-named}
+use Rattle.core_run.proofs.PickedRuns.{IsLegal-run, IsLegal-under}
+use Rattle.fs_script.proofs.CallerLemmas.{IsPath-named}
 use Rattle.core_run.proofs.JobReports.{report_view-is, as_many_files}
 use Rattle.core_run.proofs.run.simulate.Goals as goal
 

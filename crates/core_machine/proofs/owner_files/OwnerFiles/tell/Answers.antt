@@ -3,7 +3,7 @@ use Rattle.std.specs.Map.{values_of, lookup}
 use Rattle.std.specs.Option.{option_copied_mut}
 use Rattle.std.proofs.lemmas.Map.Made.{lookup-map_values}
 use Rattle.indexmap.specs.Layout.{set_value_at}
-use Rattle.core_machine.specs.Kept.{told}
+use Rattle.core_machine.specs.Kept.{owner_told}
 use Rattle.core_machine.specs.OwnerFiles.{names_key}
 use Rattle.core_machine.proofs.OwnerFiles.{told_before, told-more, told-there, told-all}
 use Rattle.core_machine.proofs.owner_files.OwnerFiles.tell.Goals.{in-Some, in_default}
@@ -36,4 +36,4 @@ returns c gfid p =
     let past = c.loop-i-test.false in
     let all = c.loop-i.invariant.all in
     ap (lookup (names_key gfid p)) (c.loop-i.invariant.told ∙ told-all es c.loop-i.i (omega arith))
-    ∙ lookup-map_values told (names_key gfid p) es
+    ∙ lookup-map_values owner_told (names_key gfid p) es

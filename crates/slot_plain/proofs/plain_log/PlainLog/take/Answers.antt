@@ -1,7 +1,7 @@
 use Rattle.slot_plain.specs.Slots.{Slot, slot_at, taken_slot}
 use Rattle.slot_plain.specs.Log.{Log}
 use Rattle.slot_plain.proofs.Taken.{taken-many, taken-each, taken-others}
-use Rattle.std.proofs.Common.{All, List, sym, subst, ◌≡◌, ◌<◌, ap, ◌∙◌, length, take, refl, Err, arith}
+use Rattle.std.proofs.Common.{All, List, sym, subst, ◌≡◌, ap, ◌∙◌, length, take, refl, Err, arith}
 use Rattle.slot_plain.specs.declared.take_no.TakeNo.TheVariants.{NoSpace}
 use Rattle.slot_plain.proofs.LogSteps.{free_is, taken_log, taken_backs}
 use Rattle.slot_plain.proofs.plain_log.PlainLog.take.Goals as goal
