@@ -3,6 +3,7 @@ use Rattle.std.specs.Prelude.{◌≡◌, ℕ, ◌+◌, ◌-◌, ◌<◌, ◌≤�
 use Rattle.std.specs.List.{AllByRecursion}
 use Rattle.fs_script.specs.Vocabulary.{LONGEST_FILE, Job, write_at, payload, offset, bytes_of, put_lines}
 use Rattle.core_machine.specs.declared.extent.Extent.{Extent}
+use Rattle.core_machine.specs.declared.file_extents.FileExtents.{FileExtents}
 
 -- the range of a write of the job that brings bytes and ends within the longest file
 pub record IsExtent (s : Job) (x : Extent) : Type 0 where
@@ -22,6 +23,12 @@ lines_of_extents xs = map (λ x. x.line) xs
 -- the bytes of the file that they make
 abbrev pub bytes_of_extents : Job → List Extent → List ℕ
 bytes_of_extents s xs = put_lines s (bytes_of s) (lines_of_extents xs) []
+
+-- the extents of a file are writes of the job, and its length is that of the file which they make
+pub record IsFileOf (s : Job) (file : FileExtents) : Type 0 where
+  pub written : AreExtents s file.extents.items
+  pub length : file.len ≡ length (bytes_of_extents s file.extents.items)
+  pub most : file.len ≤ LONGEST_FILE
 
 -- the byte at place k of a file whose byte there was b, once an extent was put over it
 abbrev pub byte_over : Job → Extent → ℕ → ℕ → ℕ

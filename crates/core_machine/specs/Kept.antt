@@ -5,13 +5,14 @@ use Rattle.core_machine.specs.declared.extent.Extent.{Extent}
 use Rattle.core_machine.specs.declared.noted.Noted.{Noted}
 use Rattle.core_machine.specs.declared.path_state.OwnedPath.{OwnedPath}
 use Rattle.core_machine.specs.declared.path_state.ClientPath.{ClientPath}
-use Rattle.core_machine.specs.Extents.{AreExtents, lines_of_extents, bytes_of_extents}
+use Rattle.core_machine.specs.declared.file_extents.FileExtents.{FileExtents}
+use Rattle.core_machine.specs.Extents.{AreExtents, IsFileOf, lines_of_extents, bytes_of_extents}
 use Rattle.core_machine.specs.Event.{Known, PathNow}
 
 -- the file that these extents make, if there is one; nothing freezes it
-abbrev pub file_of : {A : Type 0} → Job → Option (Vec Extent A) → File ℕ
+abbrev pub file_of : Job → Option FileExtents → File ℕ
 file_of s None = None
-file_of s (Some xs) = Some (record { cells = bytes_of_extents s xs.items; frozen = false })
+file_of s (Some x) = Some (record { cells = bytes_of_extents s x.extents.items; frozen = false })
 
 -- what is known of the file at a noted version
 abbrev pub known_from : Noted → Known
@@ -38,7 +39,7 @@ kept_now s x k = record {
 
 -- the extents of the file, and the pending ones, are writes of the job
 pub record AreSound (s : Job) (x : OwnedPath) (k : ClientPath) : Type 0 where
-  pub written : IfSome x.file (λ xs. AreExtents s xs.items)
+  pub written : IfSome x.file (IsFileOf s)
   pub pending : AreExtents s k.pending.items
 
 -- all that is kept for a path: by its owner, and by each client

@@ -6,7 +6,7 @@ use Rattle.fs_script.specs.Vocabulary.{Given, answer_at, Job, phase, Answering, 
 use Rattle.core_machine.specs.declared.path_state.OwnedPath.{OwnedPath}
 use Rattle.core_machine.specs.declared.path_state.ClientPath.{ClientPath}
 use Rattle.core_machine.specs.Event.{known_of}
-use Rattle.core_machine.specs.Extents.{AreExtents}
+use Rattle.core_machine.specs.Extents.{AreExtents, IsFileOf}
 use Rattle.core_machine.specs.Kept.{PathState, file_of, known_from, pending_lines}
 use Rattle.core_machine.specs.LegalSoFar.{HasClients, IsAnsweredUpTo}
 use Rattle.core_machine.specs.Turns.{Places}
@@ -19,7 +19,7 @@ script_end s = length s.lines + 2
 -- them are of earlier phases than the run's, with what is known of the file then
 pub record StandsForOwner (s : Job) (A : Answering) (now : ℕ) (x : OwnedPath) : Type 0 where
   pub answered : AllByRecursion (λ m. IsSome (A m)) x.journal.items
-  pub written : IfSome x.file (λ xs. AreExtents s xs.items)
+  pub written : IfSome x.file (IsFileOf s)
   pub file : file_of s x.file ≡ state s A x.journal.items (length x.journal.items)
   pub board : x.board.version ≡ count_by (λ m. nat_lt (phase s m) now) x.journal.items
   pub known : known_from x.board ≡ known_of (state s A x.journal.items x.board.version)

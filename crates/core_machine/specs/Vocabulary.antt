@@ -12,7 +12,7 @@ pub use Rattle.core_machine.specs.Events.Create.{create_over, create_event}
 pub use Rattle.core_machine.specs.Events.Read.{shows, read_over, read_event}
 pub use Rattle.core_machine.specs.Events.Sync.{sync_over, sync_event}
 pub use Rattle.core_machine.specs.Events.Write.{write_within, write_at_front, write_event}
-pub use Rattle.core_machine.specs.Extents.{lines_of_extents, bytes_of_extents, byte_over, IsExtent, AreExtents}
+pub use Rattle.core_machine.specs.Extents.{lines_of_extents, bytes_of_extents, byte_over, IsExtent, AreExtents, IsFileOf}
 pub use Rattle.core_machine.specs.Follows.{Follows, kept_event, Knows, FollowsFor, IsSoundFor}
 pub use Rattle.core_machine.specs.Kept.{file_of, pending_lines, IsFreshOwner, IsFreshClient, IsFreshPath, AreSound, known_from, board_now}
 pub use Rattle.core_machine.specs.Kept.{PathState, owner_told, with_board, kept_now, later_of}
@@ -27,6 +27,7 @@ pub use Rattle.core_machine.specs.Standing.{Holds, Stands, StandsForOwner, Stand
 pub use Rattle.core_machine.specs.Step.{Turn, step, path_now, after_event, event_at, step_line, step_at, after_turn, event_of}
 pub use Rattle.core_machine.specs.Turns.{Places, next_in, going, IsInPhase, is_of_phase, after_line}
 pub use Rattle.core_machine.specs.declared.extent.Extent.{Extent}
+pub use Rattle.core_machine.specs.declared.file_extents.FileExtents.{FileExtents}
 pub use Rattle.core_machine.specs.declared.noted.Noted.{Noted}
 pub use Rattle.core_machine.specs.declared.path_state.ClientPath.{ClientPath}
 pub use Rattle.core_machine.specs.declared.path_state.OwnedPath.{OwnedPath}

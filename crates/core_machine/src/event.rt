@@ -39,7 +39,7 @@ pub fn answer(
         Op::Create => create::create(alloc, n, path, own),
         Op::Open => Ok(open::open(path, own)),
         Op::Write { off, text } => write::write(s, n, *off, text, path, own),
-        Op::Sync => sync::sync(n, path, own),
+        Op::Sync => sync::sync(s, n, path, own),
         Op::Read { off, len } => read::read(alloc, s, *off, *len, path, own),
         Op::Size => Ok(size::size(s, path, own)),
     }

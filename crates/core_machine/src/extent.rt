@@ -21,19 +21,6 @@ pub struct Extent {
     pub line: LineNo,
 }
 
-/// How long the file is that these extents make.
-pub fn covered(s: &Script, extents: &[Extent]) -> u64
-    requires { AreExtents s.now extents.now }
-    ensures length { result ≡ length (bytes_of_extents s.now extents.now) }
-    ensures most { result ≤ LONGEST_FILE }
-{
-    let mut end = 0u64;
-    for x in extents {
-        end = end.max(x.at + x.len);
-    }
-    end
-}
-
 // Puts the bytes of one extent over those of `out`, which are the file's from `off` on.
 #[tactic(auto, using(crate::proofs::Extents::Bytes::overlaid))]
 fn overlay(s: &Script, x: &Extent, off: u64, out: &mut [u8])

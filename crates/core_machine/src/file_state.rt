@@ -2,11 +2,10 @@
 
 ghost use Rattle.std.specs.Prelude.{◌≡◌, IfOk, IfSome};
 ghost use Rattle.fs_script.specs.Report.{file_state_of};
-ghost use Rattle.core_machine.specs.Extents.{AreExtents};
+ghost use Rattle.core_machine.specs.Extents.{IsFileOf};
 ghost use Rattle.core_machine.specs.Kept.{file_of};
 
 use crate::event::{digest, shown_bytes};
-use crate::extent::covered;
 use crate::path_state::OwnedPath;
 use fs_script::Script;
 use fs_script::limits::DIGEST_LIMIT;
@@ -15,16 +14,15 @@ use std::alloc::Global;
 
 /// The length of a path's file, whether it is frozen, and the digest of its first bytes.
 pub fn file_state(alloc: Global, s: &Script, path: &OwnedPath) -> Result<FileState, Want>
-    requires { IfSome path.now.file (λ xs. AreExtents s.now xs.items) }
+    requires { IfSome path.now.file (IsFileOf s.now) }
     ensures { IfOk result (λ f. f ≡ file_state_of (file_of s.now path.now.file)) }
 {
-    let Some(extents) = &path.file else {
+    let Some(file) = &path.file else {
         return Ok(FileState::Gone);
     };
-    let n = covered(s, extents);
-    let bytes = shown_bytes(alloc, s, extents, 0, DIGEST_LIMIT)?;
+    let bytes = shown_bytes(alloc, s, file, 0, DIGEST_LIMIT)?;
     Ok(FileState::Whole {
-        n,
+        n: file.len,
         frozen: false,
         md5: digest(&bytes),
     })

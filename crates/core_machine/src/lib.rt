@@ -4,6 +4,7 @@
 
 mod event;
 mod extent;
+mod file_extents;
 mod file_state;
 mod laws;
 mod machine;

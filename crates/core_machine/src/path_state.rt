@@ -4,6 +4,7 @@ ghost use Rattle.std.specs.Prelude.{◌≡◌, length, IfOk};
 ghost use Rattle.core_machine.specs.Kept.{IsFreshClient, IsFreshOwner, AreFreshClients, later_of, owner_told};
 
 use crate::extent::Extent;
+use crate::file_extents::FileExtents;
 use crate::noted::Noted;
 use fs_types::{LineNo, Version, Want};
 use std::alloc::Global;
@@ -13,8 +14,8 @@ use std::alloc::Global;
 pub struct OwnedPath {
     /// The committing lines, in the owner's order.
     pub journal: Vec<LineNo>,
-    /// The extents that were committed, later ones over earlier; `None` where there is no file.
-    pub file: Option<Vec<Extent>>,
+    /// The extents that were committed; `None` where there is no file.
+    pub file: Option<FileExtents>,
     /// The version at the end of the last phase.
     pub board: Noted,
 }

@@ -40,7 +40,7 @@ bytes_of_extents-push : {s : Job} (xs : List Extent) {x : Extent} → IsExtent s
     → bytes_of_extents s (xs ++ x ∷ []) ≡ put 0 (bytes_of_extents s xs) x.at (payload s x.line)
 bytes_of_extents-push {s} xs {x} is = grind (arith, common_steps, map_push, put_lines-append)
 
-length-bytes_of_extents-push : {s : Job} (xs : List Extent) {x : Extent} → IsExtent s x
+pub length-bytes_of_extents-push : {s : Job} (xs : List Extent) {x : Extent} → IsExtent s x
     → length (bytes_of_extents s (xs ++ x ∷ [])) ≡ max (length (bytes_of_extents s xs)) (x.at + x.len)
 length-bytes_of_extents-push {s} xs {x} is = grind (arith, common_steps, bytes_of_extents-push, length-put)
 

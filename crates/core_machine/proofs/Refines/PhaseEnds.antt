@@ -3,7 +3,7 @@ use Rattle.fs_types.proofs.Common.{◌≡◌, ℕ, zero, suc, ◌<◌, Bool, fal
 use Rattle.fs_types.proofs.Common.{is_some, Vec, nat_lt, count_by, slice_index, refl, sym, ap, ◌∙◌, subst, arith, zip, slice_get}
 use Rattle.fs_types.proofs.Common.{AllByRecursion, lt-ltb, length-map, sum_by-cons, map-map, same_Some}
 use Rattle.fs_script.specs.Vocabulary.{Given, answer_at, Job, phase, Answering}
-use Rattle.core_machine.specs.Vocabulary.{Extent, OwnedPath, PathState, known_of, file_of, board_now, with_board, Places, IsAnsweredUpTo}
+use Rattle.core_machine.specs.Vocabulary.{FileExtents, OwnedPath, PathState, known_of, file_of, board_now, with_board, Places, IsAnsweredUpTo}
 use Rattle.core_machine.specs.Vocabulary.{client_at, moment_of, Holds, Stands, StandsForOwner}
 use Rattle.fs_script.proofs.CallerLemmas.{AllByRecursion-weaker}
 use Rattle.core_machine.proofs.Refines.JournalsKept.{journal_kept}
@@ -17,7 +17,7 @@ all-earlier s now (m ∷ J) all =
     let first = ap (λ b. cond {A = ℕ} b 1 0) (lt-ltb (phase s m) now all.0) in
     omega (arith, rest, first, sum_by-cons (λ k. cond (nat_lt (phase s k) now) 1 0) m J)
 
-known-board : {A : Type 0} (s : Job) (f : Option (Vec Extent A)) → record { exists = is_some f; frozen = false } ≡ known_of (file_of s f)
+known-board : (s : Job) (f : Option FileExtents) → record { exists = is_some f; frozen = false } ≡ known_of (file_of s f)
 known-board s None = refl
 known-board s (Some xs) = refl
 

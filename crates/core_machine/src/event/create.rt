@@ -5,6 +5,7 @@ ghost use Rattle.fs_script.specs.Job.{Job};
 ghost use Rattle.core_machine.specs.Follows.{Follows};
 ghost use Rattle.core_machine.specs.Kept.{AreSound};
 
+use crate::file_extents::FileExtents;
 use crate::path_state::{ClientPath, OwnedPath};
 use fs_script::Op;
 use fs_types::{Answer, LineNo, Want};
@@ -28,7 +29,7 @@ pub fn create(
         return Ok(Answer::Exists { v });
     }
     path.journal.push(n)?;
-    path.file = Some(Vec::new(alloc));
+    path.file = Some(FileExtents::new(alloc));
     own.is_open = true;
     let v = path.version();
     own.note(v, true);

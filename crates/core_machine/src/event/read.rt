@@ -4,11 +4,12 @@ ghost use Rattle.std.specs.Prelude.{◌≡◌, ℕ, ◌+◌, ◌^◌, ◌<◌, �
 ghost use Rattle.fs_types.specs.Overwrite.{shown};
 ghost use Rattle.fs_script.specs.Fits.{body_of};
 ghost use Rattle.md5.specs.Md5.{md5};
-ghost use Rattle.core_machine.specs.Extents.{AreExtents, bytes_of_extents};
+ghost use Rattle.core_machine.specs.Extents.{IsFileOf, bytes_of_extents};
 ghost use Rattle.core_machine.specs.Follows.{Follows};
 ghost use Rattle.core_machine.specs.Kept.{AreSound};
 
-use crate::extent::{Extent, covered, read_extents};
+use crate::extent::read_extents;
+use crate::file_extents::FileExtents;
 use crate::path_state::{ClientPath, OwnedPath};
 use fs_script::{Op, Script};
 use fs_types::{Answer, Body, Digest16, HEX_LIMIT, ShortBytes, Want};
@@ -36,16 +37,16 @@ fn body(bytes: &[u8]) -> Body
 pub fn shown_bytes(
     alloc: Global,
     s: &Script,
-    extents: &[Extent],
+    file: &FileExtents,
     off: u64,
     len: u64,
 ) -> Result<Vec<u8>, Want>
-    requires { AreExtents s.now extents.now }
-    ensures { IfOk result (λ v. v.items ≡ shown (bytes_of_extents s.now extents.now) off len) }
+    requires { IsFileOf s.now file.now }
+    ensures { IfOk result (λ v. v.items
+        ≡ shown (bytes_of_extents s.now file.now.extents.items) off len) }
 {
-    let size = covered(s, extents);
-    let off = off.min(size);
-    read_extents(alloc, s, extents, off, len.min(size - off))
+    let off = off.min(file.len);
+    read_extents(alloc, s, &file.extents, off, len.min(file.len - off))
 }
 
 /// Answers a read of at most `len` bytes from `off` on.
@@ -66,11 +67,11 @@ pub fn read(
         return Ok(Answer::BadF);
     }
     let v = path.version();
-    let Some(extents) = &path.file else {
+    let Some(file) = &path.file else {
         own.note(v, false);
         return Ok(Answer::NoEnt { v });
     };
-    let bytes = shown_bytes(alloc, s, extents, off, len)?;
+    let bytes = shown_bytes(alloc, s, file, off, len)?;
     own.note(v, true);
     Ok(Answer::Shown {
         v,

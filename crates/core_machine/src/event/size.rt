@@ -5,7 +5,6 @@ ghost use Rattle.core_machine.specs.Extents.{AreExtents, bytes_of_extents};
 ghost use Rattle.core_machine.specs.Follows.{Follows};
 ghost use Rattle.core_machine.specs.Kept.{AreSound};
 
-use crate::extent::covered;
 use crate::path_state::{ClientPath, OwnedPath};
 use fs_script::{Op, Script};
 use fs_types::Answer;
@@ -20,7 +19,7 @@ pub fn size(s: &Script, path: &OwnedPath, own: &mut ClientPath) -> Answer
         return Answer::BadF;
     }
     let v = path.version();
-    let Some(extents) = &path.file else {
+    let Some(file) = &path.file else {
         own.note(v, false);
         return Answer::NoEnt { v };
     };
@@ -28,7 +27,7 @@ pub fn size(s: &Script, path: &OwnedPath, own: &mut ClientPath) -> Answer
     // Nothing freezes a file yet.
     Answer::Sized {
         v,
-        n: covered(s, extents),
+        n: file.len,
         frozen: false,
     }
 }
