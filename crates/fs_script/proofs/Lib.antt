@@ -15,7 +15,10 @@ pub mod InReach
 pub mod Refused
 pub mod Cases
 mod TableCases
-mod TwoPhases
+pub mod TwoPhases
+mod MarkCases
+pub mod MarkedBytes
+pub mod MarksGrow
 pub mod Jobs
 pub mod ProgramPlaces
 pub mod AnsweredLines
