@@ -19,6 +19,9 @@ pub mod TwoPhases
 mod MarkCases
 pub mod MarkedBytes
 pub mod MarksGrow
+pub mod FileCells
+pub mod PiecesOnce
+pub mod LivePieces
 pub mod Jobs
 pub mod ProgramPlaces
 pub mod AnsweredLines

@@ -1,9 +1,9 @@
 -- The bytes of a file follow from its marks: at each version each byte is that of its mark, and 0 where there is none. So the
 -- file of marks is there exactly where that of bytes is, is as long and is frozen alike.
-use Rattle.fs_types.proofs.Common.{◌≡◌, ℕ, zero, suc, ◌+◌, ◌-◌, ◌*◌, ◌/◌, ◌%◌, ◌<◌, Bool, true, false, cond, nat_le, List, [], ◌∷◌, ◌++◌}
+use Rattle.fs_types.proofs.Common.{◌≡◌, ℕ, zero, suc, ◌+◌, ◌-◌, ◌*◌, ◌/◌, ◌%◌, ◌<◌, Bool, true, false, cond, nat_le, List, [], ◌∷◌}
 use Rattle.fs_types.proofs.Common.{map, length, take, drop, replicate, get_or, Option, Some, None, is_some, option_map, refl, sym, ap, ◌∙◌, arith}
 use Rattle.fs_types.proofs.Common.{length-map, map-append, get_or-map, get_or-take, get_or-drop, length-map-range_with_len}
-use Rattle.fs_types.proofs.Common.{get_or-map-range_with_len}
+use Rattle.fs_types.proofs.Common.{◌++◌, get_or-map-range_with_len}
 use Rattle.std.proofs.Math.Nat.{mod-lt}
 use Rattle.std.proofs.lemmas.Nat.{div-add-mod'}
 use Rattle.std.proofs.lemmas.List.{take-map, drop-map, ext_get_or}
@@ -39,7 +39,8 @@ module _ {X Y : Type 0} (h : X → Y) where
       let rest = drop (off + length (y ∷ ys)) xs in
       map-append h (front ++ (y ∷ ys)) rest
       ∙ ap (λ zs. zs ++ map h rest) (map-append h front (y ∷ ys))
-      ∙ ap (λ zs. zs ++ map h (y ∷ ys) ++ map h rest) (sym (take-map h off (extended blank xs off)) ∙ ap (take off) (map-extended blank xs off))
+      ∙ ap (λ zs. zs ++ map h (y ∷ ys) ++ map h rest)
+      (sym (take-map h off (extended blank xs off)) ∙ ap (take off) (map-extended blank xs off))
       ∙ ap (λ zs. take off (extended (h blank) (map h xs) off) ++ map h (y ∷ ys) ++ zs)
       (sym (drop-map h (off + length (y ∷ ys)) xs) ∙ ap (λ n. drop (off + n) (map h xs)) (sym (length-map (y ∷ ys) h)))
 
