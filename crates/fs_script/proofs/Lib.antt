@@ -20,8 +20,10 @@ mod MarkCases
 pub mod MarkedBytes
 pub mod MarksGrow
 pub mod FileCells
+pub mod PendingLines
 pub mod PiecesOnce
 pub mod LivePieces
+pub mod LivePaths
 pub mod Jobs
 pub mod ProgramPlaces
 pub mod AnsweredLines

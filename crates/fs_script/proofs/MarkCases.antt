@@ -1,9 +1,10 @@
--- Marks, and which pieces are live or pending, worked out by hand, in parts of 8 bytes.
+-- Marks, their runs, and which pieces are live or pending, worked out by hand, in parts of 8 bytes.
 use Rattle.std.proofs.Common.{◌≡◌, ℕ, [], ◌∷◌, Bool, Option, Some, None, true, false, refl}
 use Rattle.std.specs.Prelude.{codes}
 use Rattle.fs_types.specs.AnswerList.{answer_at}
 use Rattle.fs_types.specs.Marks.{Mark, mark_of, no_mark}
-use Rattle.fs_types.specs.Pieces.{Piece}
+use Rattle.fs_types.specs.Overwrite.{shown}
+use Rattle.fs_types.specs.Pieces.{Piece, Fragment}
 use Rattle.fs_types.specs.declared.answer.Answer.TheVariants as answers
 use Rattle.fs_script.specs.declared.line.Line.TheVariants as lines
 use Rattle.fs_script.specs.declared.line.Op.TheVariants as ops
@@ -14,6 +15,7 @@ use Rattle.fs_script.specs.Effect.{state}
 use Rattle.fs_script.specs.SoFar.{JournalsByPath}
 use Rattle.fs_script.specs.Marks.{marks_at, present_marks, marked_bytes}
 use Rattle.fs_script.specs.Live.{pieces_borne, named_paths, is_live, pending_marks, is_pending, pieces_by, live_or_pending, accepted_pieces}
+use Rattle.fs_script.specs.Runs.{runs}
 use Rattle.fs_script.proofs.Cases.{overlapping, overlapping_answers, overlapping_journal}
 use Rattle.fs_script.proofs.FiveLines.{path_a, on_a}
 use Rattle.fs_script.proofs.TwoPhases.{other_on_a}
@@ -162,3 +164,25 @@ nothing_of_another = refl
 
 refused_is_not_accepted : accepted_pieces covering last_answers (program covering 1) ≡ 0
 refused_is_not_accepted = refl
+
+-- ---- runs
+
+abbrev run : ℕ → ℕ → Piece → ℕ → Fragment
+run at len x from = record { at = at; len = len; piece = x; from = from }
+
+-- two runs of one piece with another's between them, and one of a second piece
+runs_over_the_middle : runs (present_marks covering middle_answers (2 ∷ 4 ∷ 6 ∷ []))
+    ≡ run 0 2 (piece 3 0) 0 ∷ run 2 2 (piece 5 0) 0 ∷ run 4 4 (piece 3 0) 4 ∷ run 8 2 (piece 3 1) 0 ∷ []
+runs_over_the_middle = refl
+
+-- what is shown from the second byte of the first run on
+runs_shown : runs (shown (present_marks covering middle_answers (2 ∷ 4 ∷ 6 ∷ [])) 1 2) ≡ run 0 1 (piece 3 0) 1 ∷ run 1 1 (piece 5 0) 0 ∷ []
+runs_shown = refl
+
+-- zeros that nobody wrote are in no run
+runs_round_a_gap : runs (present_marks overlapping overlapping_answers overlapping_journal)
+    ≡ run 0 3 (piece 3 0) 0 ∷ run 3 3 (piece 4 0) 0 ∷ run 10 1 (piece 7 0) 0 ∷ []
+runs_round_a_gap = refl
+
+no_runs : runs [] ≡ []
+no_runs = refl

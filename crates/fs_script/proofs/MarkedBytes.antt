@@ -1,9 +1,9 @@
 -- The bytes of a file follow from its marks: at each version each byte is that of its mark, and 0 where there is none. So the
 -- file of marks is there exactly where that of bytes is, is as long and is frozen alike.
 use Rattle.fs_types.proofs.Common.{◌≡◌, ℕ, zero, suc, ◌+◌, ◌-◌, ◌*◌, ◌/◌, ◌%◌, ◌<◌, Bool, true, false, cond, nat_le, List, [], ◌∷◌}
-use Rattle.fs_types.proofs.Common.{map, length, take, drop, replicate, get_or, Option, Some, None, is_some, option_map, refl, sym, ap, ◌∙◌, arith}
+use Rattle.fs_types.proofs.Common.{map, length, take, drop, replicate, get_or, Option, Some, None, is_some, option_map, refl, sym, ap}
 use Rattle.fs_types.proofs.Common.{length-map, map-append, get_or-map, get_or-take, get_or-drop, length-map-range_with_len}
-use Rattle.fs_types.proofs.Common.{◌++◌, get_or-map-range_with_len}
+use Rattle.fs_types.proofs.Common.{◌++◌, ◌∙◌, arith, get_or-map-range_with_len}
 use Rattle.std.proofs.Math.Nat.{mod-lt}
 use Rattle.std.proofs.lemmas.Nat.{div-add-mod'}
 use Rattle.std.proofs.lemmas.List.{take-map, drop-map, ext_get_or}

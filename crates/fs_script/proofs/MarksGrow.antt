@@ -1,18 +1,20 @@
 -- Marks as lines are written, as the journal grows, and as answers come.
 use Rattle.fs_types.proofs.Common.{◌≡◌, ℕ, suc, ◌+◌, ◌-◌, ◌≤◌, Bool, true, false, cond, leb, ltb, ◌&&◌, List, [], ◌∷◌, ◌++◌, length, get_or}
-use Rattle.fs_types.proofs.Common.{Option, Some, None, refl, ap, ◌∙◌, arith, le-leb, leb-true, ltb-true, and_parts, cond-true}
+use Rattle.fs_types.proofs.Common.{Option, Some, None, list_any, refl, ap, ◌∙◌, arith, le-leb, leb-true, ltb-true, and_parts, cond-true}
 use Rattle.fs_types.proofs.Common.{length-map-range_with_len, get_or-map-range_with_len, nat_le}
 use Rattle.fs_types.proofs.CallerLemmas.{get_or-put}
 use Rattle.fs_types.specs.declared.limits.TheConstants.{LONGEST_FILE}
 use Rattle.fs_types.specs.Marks.{Mark, mark_of, marks_of}
 use Rattle.fs_types.specs.Overwrite.{put}
+use Rattle.fs_types.specs.Pieces.{Piece}
 use Rattle.fs_script.specs.Growth.{AgreeBefore, SamePending}
 use Rattle.fs_script.specs.Job.{Job}
 use Rattle.fs_script.specs.Payload.{payload, offset, marks_in}
 use Rattle.fs_script.specs.Pending.{Answering}
 use Rattle.fs_script.specs.Effect.{put_lines, effect}
+use Rattle.fs_script.specs.SoFar.{JournalsByPath}
 use Rattle.fs_script.specs.Marks.{marks_at, marks_put, cells_of, present_marks}
-use Rattle.fs_script.specs.Live.{past_lines, pending_marks}
+use Rattle.fs_script.specs.Live.{bears, named_paths, is_live, past_lines, pending_marks, is_pending}
 use Rattle.fs_script.proofs.Agreement.{pending-agree}
 use Rattle.fs_script.proofs.States.{put_lines-append, state_in-agree, state_in-push, state_in-push_last}
 
@@ -74,3 +76,15 @@ present_marks-agree s A B J same = ap cells_of (marks_at-agree s A B J (length J
 pub pending_marks-agree : (s : Job) (r : ℕ) (p : List ℕ) (A B : Answering) → AgreeBefore s r p A B (past_lines s)
     → pending_marks s A r p ≡ pending_marks s B r p
 pending_marks-agree s r p A B agree = ap (marks_put s) (pending-agree s r p A B (past_lines s) agree)
+
+-- so a live piece stays live
+pub is_live-agree : (s : Job) (A B : Answering) (journals : JournalsByPath) (x : Piece) → ((p : List ℕ) → SamePending s A B (journals p))
+    → is_live s A journals x ≡ is_live s B journals x
+is_live-agree s A B journals x same =
+    ap (λ test. list_any test (named_paths s)) (λ i p. bears (present_marks-agree s A B (journals p) (same p) i) x)
+
+-- and a pending one pending
+pub is_pending-agree : (s : Job) (r : ℕ) (A B : Answering) (x : Piece) → ((p : List ℕ) → AgreeBefore s r p A B (past_lines s))
+    → is_pending s A r x ≡ is_pending s B r x
+is_pending-agree s r A B x agree =
+    ap (λ test. list_any test (named_paths s)) (λ i p. bears (pending_marks-agree s r p A B (agree p) i) x)

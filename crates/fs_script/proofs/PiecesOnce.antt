@@ -109,7 +109,7 @@ IsDistinct-pieces_borne marks = IsDistinct-each_once piece_eq (filter_map (optio
 
 -- ---- the pieces that a client writes
 
-abbrev piece_at : ℕ → ℕ → Piece
+abbrev pub piece_at : ℕ → ℕ → Piece
 piece_at n p = record { line = n; part = p }
 
 -- parts of one line from a on differ, and so do those of lines from a on

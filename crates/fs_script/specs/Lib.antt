@@ -18,5 +18,6 @@ pub mod Returned
 pub mod SoFar
 pub mod Marks
 pub mod Live
+pub mod Runs
 pub mod Laws
 pub mod Vocabulary

@@ -81,11 +81,11 @@ pieces_by s r = flat_map (pieces_of_line s) (program s r)
 abbrev pub live_or_pending : Job → Answering → JournalsByPath → ℕ → List Piece
 live_or_pending s A journals r = filter (λ x. is_live s A journals x || is_pending s A r x) (pieces_by s r)
 
--- how many pieces line n wrote, with this answer
-abbrev pub accepted_need : Job → ℕ → Option Answer → ℕ
-accepted_need s n None = 0
-accepted_need s n (Some a) = if is_accepted a then need s n else 0
+-- a line has an answer by which its bytes were accepted
+abbrev pub was_accepted : Option Answer → Bool
+was_accepted None = false
+was_accepted (Some a) = is_accepted a
 
 -- how many pieces the accepted writes among these lines have
 abbrev pub accepted_pieces : Job → Answering → List ℕ → ℕ
-accepted_pieces s A ns = sum_by (λ n. accepted_need s n (A n)) ns
+accepted_pieces s A ns = sum_by (λ n. if was_accepted (A n) then need s n else 0) ns
