@@ -24,6 +24,7 @@ pub mod PendingLines
 pub mod PiecesOnce
 pub mod LivePieces
 pub mod LivePaths
+pub mod RunsOfMarks
 pub mod Jobs
 pub mod ProgramPlaces
 pub mod AnsweredLines

@@ -1,8 +1,8 @@
 -- A piece is live where the present file of any path bears it, and pending where what its client has pending to any path does:
 -- a file that is there is of a path that the script names, and so is every write.
-use Rattle.fs_types.proofs.Common.{◌≡◌, ℕ, zero, suc, ◌<◌, Bool, true, false, ◌||◌, ◌&&◌, ◌==◌, List, [], ◌∷◌, filter_map, list_any}
+use Rattle.fs_types.proofs.Common.{◌≡◌, ℕ, zero, suc, ◌<◌, Bool, true, ◌||◌, ◌&&◌, ◌==◌, List, [], ◌∷◌, filter_map, list_any}
 use Rattle.fs_types.proofs.Common.{Option, Some, None, IsSome, is_some, option_map, cons_option, bytes_eq, bytes_eq-Decides, cond}
-use Rattle.fs_types.proofs.Common.{cases_Bool, none-some, same_Some, true≢false, refl, sym, ap, ◌∙◌, subst, inl, inr, and_parts}
+use Rattle.fs_types.proofs.Common.{cases_Bool, none-some, same_Some, true≢false, refl, sym, ap, ◌∙◌, inl, inr, and_parts}
 use Rattle.fs_types.proofs.Common.{slice_get, cond-false, nat_list_eq_equiv}
 use Rattle.std.proofs.Math.Bool.{or-true}
 use Rattle.std.proofs.lemmas.List.Folds.{Any-from_list_any, list_any_at}

@@ -2,7 +2,7 @@
 -- are no more of them than the client's accepted writes have pieces.
 use Rattle.fs_types.proofs.Common.{◌≡◌, ℕ, ◌/◌, ◌<◌, Bool, true, false, ◌||◌, ◌&&◌, List, [], length, list_any}
 use Rattle.fs_types.proofs.Common.{Option, Some, None, IfSome, true≢false, refl, sym, ap, subst, inl, inr, arith, All}
-use Rattle.fs_types.proofs.Common.{suc, ◌∷◌, cond, map, flat_map, AllByRecursion, cond_both, cond-false, false_from_ne_true, filter-append}
+use Rattle.fs_types.proofs.Common.{◌∷◌, cond, map, flat_map, AllByRecursion, cond_both, cond-false, false_from_ne_true, filter-append}
 use Rattle.fs_types.proofs.Common.{◌≤◌, ◌+◌, min, filter, range_with_len, ◌∙◌, length-append, sum_by-cons, count_by-le-length}
 use Rattle.fs_types.proofs.Common.{All-nil, IsDistinct, or_cases, length-map-range_with_len, get_or-map-range_with_len}
 use Rattle.std.proofs.Math.Nat.{div-lt_iff_lt-mul, zero-div, zero-mod}

@@ -1,13 +1,15 @@
 -- Marks, their runs, and which pieces are live or pending, worked out by hand, in parts of 8 bytes.
-use Rattle.std.proofs.Common.{◌≡◌, ℕ, [], ◌∷◌, Bool, Option, Some, None, true, false, refl}
-use Rattle.std.specs.Prelude.{codes}
+use Rattle.std.proofs.Common.{◌≡◌, ℕ, List, [], ◌∷◌, Bool, Option, Some, None, true, false, refl}
+use Rattle.std.specs.Prelude.{codes, bytes_eq, if◌then◌else◌}
 use Rattle.fs_types.specs.AnswerList.{answer_at}
 use Rattle.fs_types.specs.Marks.{Mark, mark_of, no_mark}
 use Rattle.fs_types.specs.Overwrite.{shown}
 use Rattle.fs_types.specs.Pieces.{Piece, Fragment}
 use Rattle.fs_types.specs.declared.answer.Answer.TheVariants as answers
 use Rattle.fs_script.specs.declared.line.Line.TheVariants as lines
+use Rattle.fs_script.specs.declared.line.Op.{Op}
 use Rattle.fs_script.specs.declared.line.Op.TheVariants as ops
+use Rattle.fs_script.specs.declared.line.OpLine.{OpLine}
 use Rattle.fs_script.specs.declared.line.Data.TheVariants.{Text}
 use Rattle.fs_script.specs.Job.{Job, program}
 use Rattle.fs_script.specs.Pending.{Answering}
@@ -127,6 +129,54 @@ other_piece_is_live = refl
 
 part_without_bytes_is_not_live : is_live_last (piece 3 2) ≡ false
 part_without_bytes_is_not_live = refl
+
+-- ---- two paths
+
+abbrev path_b : List ℕ
+path_b = codes "/unifyfs/b"
+
+abbrev on_b : Op → OpLine
+on_b op = record { rank = 1; path = path_b; op = op }
+
+-- client 0 makes file a and writes into it, and client 1 makes file b, and commits to it
+abbrev two_files : Job
+two_files = record {
+  shape = covering.shape;
+  lines =
+      lines.Op (on_a ops.Create)
+      ∷ lines.Op (on_b ops.Create)
+      ∷ lines.Op (on_a (ops.Write 0 (Text (codes "u"))))
+      ∷ lines.Op (on_b (ops.Write 0 (Text (codes "v"))))
+      ∷ lines.Op (on_b ops.Sync)
+      ∷ [];
+}
+
+abbrev two_files_answers : Answering
+two_files_answers = answer_at (
+    (2, answers.Done 1) ∷ (3, answers.Done 1) ∷ (4, answers.Wrote 1) ∷ (5, answers.Wrote 1) ∷ (6, answers.Done 2) ∷ [])
+
+abbrev two_files_journals : JournalsByPath
+two_files_journals p = if bytes_eq p path_b then 3 ∷ 6 ∷ [] else 2 ∷ []
+
+two_paths : named_paths two_files ≡ path_a ∷ path_b ∷ []
+two_paths = refl
+
+-- the file of the second path bears it
+live_at_the_second_path : is_live two_files two_files_answers two_files_journals (piece 5 0) ≡ true
+live_at_the_second_path = refl
+
+not_synced_is_not_live : is_live two_files two_files_answers two_files_journals (piece 4 0) ≡ false
+not_synced_is_not_live = refl
+
+not_synced_is_pending : is_pending two_files two_files_answers 0 (piece 4 0) ≡ true
+not_synced_is_pending = refl
+
+not_pending_for_another : is_pending two_files two_files_answers 1 (piece 4 0) ≡ false
+not_pending_for_another = refl
+
+one_of_each_client : (live_or_pending two_files two_files_answers two_files_journals 0 ≡ piece 4 0 ∷ [])
+    × (live_or_pending two_files two_files_answers two_files_journals 1 ≡ piece 5 0 ∷ [])
+one_of_each_client = (refl, refl)
 
 -- ---- pending pieces
 

@@ -16,21 +16,23 @@ use Rattle.fs_script.specs.Payload.{parts_of, payload}
 use Rattle.fs_script.specs.Pending.{Answering, pending}
 use Rattle.fs_script.specs.SoFar.{JournalsByPath}
 
--- the first of each that are equal
+-- of the elements that are equal the first alone
 abbrev pub each_once : {X : Type 0} → (X → X → Bool) → List X → List X
 each_once eq [] = []
 each_once eq (x ∷ xs) = x ∷ filter (λ y. not (eq x y)) (each_once eq xs)
 
 -- ---- the pieces that marks are of
 
+-- the piece of a mark
 abbrev pub piece_of : Mark → Piece
 piece_of m = record { line = m.line; part = m.part }
 
+-- whether a place has a mark of this piece
 abbrev pub is_of_piece : Piece → Option Mark → Bool
 is_of_piece x None = false
 is_of_piece x (Some m) = piece_eq (piece_of m) x
 
--- whether some of these marks is of a piece
+-- whether one of these marks is of a piece
 abbrev pub bears : List (Option Mark) → Piece → Bool
 bears marks x = list_any (is_of_piece x) marks
 
@@ -40,6 +42,7 @@ pieces_borne marks = each_once piece_eq (filter_map (option_map piece_of) marks)
 
 -- ---- live and pending pieces
 
+-- the path of a line, if it is an operation
 abbrev pub path_in : Line → Option (List ℕ)
 path_in l = option_map (λ o. o.path) (operation (Some l))
 
@@ -47,7 +50,7 @@ path_in l = option_map (λ o. o.path) (operation (Some l))
 abbrev pub named_paths : Job → List (List ℕ)
 named_paths s = each_once bytes_eq (filter_map path_in s.lines)
 
--- a piece is live where the present file of some path bears it
+-- a piece is live where the present file of some path that the script names bears it
 abbrev pub is_live : Job → Answering → JournalsByPath → Piece → Bool
 is_live s A journals x = list_any (λ p. bears (present_marks s A (journals p)) x) (named_paths s)
 
