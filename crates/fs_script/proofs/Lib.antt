@@ -16,7 +16,16 @@ pub mod InReach
 pub mod Refused
 pub mod Cases
 mod TableCases
-mod TwoPhases
+pub mod TwoPhases
+mod MarkCases
+pub mod MarkedBytes
+pub mod MarksGrow
+pub mod FileCells
+pub mod PendingLines
+pub mod PiecesOnce
+pub mod LivePieces
+pub mod LivePaths
+pub mod RunsOfMarks
 pub mod Jobs
 pub mod ProgramPlaces
 pub mod AnsweredLines

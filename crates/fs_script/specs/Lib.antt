@@ -16,5 +16,8 @@ pub mod Reading
 pub mod Growth
 pub mod Returned
 pub mod SoFar
+pub mod Marks
+pub mod Live
+pub mod Runs
 pub mod Laws
 pub mod Vocabulary
