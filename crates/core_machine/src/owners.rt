@@ -25,7 +25,7 @@ fn empty_servers(alloc: Global, servers: u32) -> Result<Vec<OwnerFiles>, Want>
 }
 
 // Adds a path to the files of its owner.
-fn add_path(alloc: Global, owners: &mut [OwnerFiles], servers: u32, path: &[u8]) -> Result<(), Want>
+fn file_path(alloc: Global, owners: &mut [OwnerFiles], servers: u32, path: &[u8]) -> Result<(), Want>
     requires some { 1 ≤ servers }
     requires sized { length owners.old ≡ servers }
     ensures { OnOk result (AddsPath owners.old owners.new path.now) }
@@ -43,7 +43,7 @@ pub fn owners_of(alloc: Global, servers: u32, paths: &PathTable) -> Result<Vec<O
 {
     let mut owners = empty_servers(alloc, servers)?;
     for i in 0..paths.len() {
-        add_path(alloc, &mut owners, servers, paths.path(i))?;
+        file_path(alloc, &mut owners, servers, paths.path(i))?;
     }
     Ok(owners)
 }

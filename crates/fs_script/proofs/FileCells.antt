@@ -9,7 +9,7 @@ use Rattle.fs_script.specs.Job.{Job, op_at}
 use Rattle.fs_script.specs.Payload.{Cells, offset}
 use Rattle.fs_script.specs.Pending.{Answering, pending_at}
 use Rattle.fs_script.specs.Effect.{put_lines, is_enabled, makes, effect_in, effect, after_all, state_in}
-use Rattle.fs_script.specs.Marks.{cells_of}
+use Rattle.fs_script.specs.FileMarks.{cells_of}
 
 module _ {X : Type 0} (P : X → Type 0) (s : Job) (c : Cells X) (of_blank : P c.blank) where
   -- it holds of all that these lines bring

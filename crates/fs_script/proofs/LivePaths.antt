@@ -12,7 +12,7 @@ use Rattle.fs_script.specs.declared.line.OpLine.{OpLine}
 use Rattle.fs_script.specs.Job.{Job, op_at, operation, own_op}
 use Rattle.fs_script.specs.Journal.{committed, commit_in, commit_by, IsLegalJournal}
 use Rattle.fs_script.specs.Live.{path_in, named_paths, bears, is_live, is_pending, pending_marks}
-use Rattle.fs_script.specs.Marks.{present_marks}
+use Rattle.fs_script.specs.FileMarks.{present_marks}
 use Rattle.fs_script.specs.Pending.{Answering, pending}
 use Rattle.fs_script.specs.SoFar.{JournalsByPath}
 use Rattle.fs_script.proofs.LivePieces.{IsPart-pending_marks}

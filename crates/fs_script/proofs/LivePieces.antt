@@ -18,7 +18,7 @@ use Rattle.fs_script.specs.Job.{Job, op_at, program}
 use Rattle.fs_script.specs.Payload.{payload, marks_in, parts_of, brought_in, bytes_brought}
 use Rattle.fs_script.specs.Pending.{Answering, pending, pending_at}
 use Rattle.fs_script.specs.SoFar.{JournalsByPath}
-use Rattle.fs_script.specs.Marks.{present_marks}
+use Rattle.fs_script.specs.FileMarks.{present_marks}
 use Rattle.fs_script.specs.Live.{piece_of, is_of_piece, bears, named_paths, is_live, is_pending, past_lines, pending_marks, need}
 use Rattle.fs_script.specs.Live.{pieces_by, was_accepted, live_or_pending, pieces_of_line, accepted_pieces}
 use Rattle.fs_script.proofs.FileCells.{All-put_lines, All-state_in}

@@ -18,7 +18,7 @@ use Rattle.fs_script.specs.Job.{Job, op_at}
 use Rattle.fs_script.specs.Payload.{Cells, payload, offset, bytes_of, marks_in}
 use Rattle.fs_script.specs.Pending.{Answering, pending_at}
 use Rattle.fs_script.specs.Effect.{put_lines, with_lines, is_enabled, makes, effect_in, effect, after_all, state_in, state}
-use Rattle.fs_script.specs.Marks.{marks_at, marks_put, cells_of, marked_byte, file_map, marked_bytes}
+use Rattle.fs_script.specs.FileMarks.{marks_at, marks_put, cells_of, marked_byte, file_map, marked_bytes}
 
 -- ---- what overwriting makes of the values of a function is the values of what it makes
 

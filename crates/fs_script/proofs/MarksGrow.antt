@@ -13,7 +13,7 @@ use Rattle.fs_script.specs.Payload.{payload, offset, marks_in}
 use Rattle.fs_script.specs.Pending.{Answering}
 use Rattle.fs_script.specs.Effect.{put_lines, effect}
 use Rattle.fs_script.specs.SoFar.{JournalsByPath}
-use Rattle.fs_script.specs.Marks.{marks_at, marks_put, cells_of, present_marks}
+use Rattle.fs_script.specs.FileMarks.{marks_at, marks_put, cells_of, present_marks}
 use Rattle.fs_script.specs.Live.{bears, named_paths, is_live, past_lines, pending_marks, is_pending}
 use Rattle.fs_script.proofs.Agreement.{pending-agree}
 use Rattle.fs_script.proofs.States.{put_lines-append, state_in-agree, state_in-push, state_in-push_last}

@@ -16,7 +16,7 @@ pub mod Reading
 pub mod Growth
 pub mod Returned
 pub mod SoFar
-pub mod Marks
+pub mod FileMarks
 pub mod Live
 pub mod Runs
 pub mod Laws

@@ -11,7 +11,7 @@ use Rattle.fs_types.specs.Pieces.{Piece}
 use Rattle.fs_script.specs.declared.line.Line.{Line}
 use Rattle.fs_script.specs.AnswerKinds.{is_accepted}
 use Rattle.fs_script.specs.Job.{Job, operation, program}
-use Rattle.fs_script.specs.Marks.{marks_put, present_marks}
+use Rattle.fs_script.specs.FileMarks.{marks_put, present_marks}
 use Rattle.fs_script.specs.Payload.{parts_of, payload}
 use Rattle.fs_script.specs.Pending.{Answering, pending}
 use Rattle.fs_script.specs.SoFar.{JournalsByPath}

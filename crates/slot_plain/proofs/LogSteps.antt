@@ -12,6 +12,7 @@ use Rattle.slot_plain.specs.Slots.{bytes_of_slot, HasPieceOf}
 use Rattle.slot_plain.specs.Entries.{Table}
 use Rattle.slot_plain.specs.Log.{DeviceState, Log, spill_place, bytes_from, told_in, told_piece, told_slot, told_slots, log_of, Backs}
 use Rattle.slot_plain.specs.Log.{WroteToSlot, Fills, FailsToFill}
+use Rattle.slot_plain.proofs.TableSteps.{with_slot}
 use Rattle.slot_plain.proofs.Cells.{LeftOpen-other, Wrote-same, WasWritten-part, HoldsAt-part}
 use Rattle.slot_plain.proofs.Logs.{slot_at-told, told-set, told-with_taken, free_slots-told, held_count-told, told-released}
 use Rattle.slot_plain.proofs.Logs.{told-in_memory, told-spilled, told-alike, ranges_apart, place_within, Backs-set, Backs-with_taken}
@@ -20,10 +21,6 @@ use Rattle.slot_plain.proofs.Logs.{Backs-device, held-within, piece-within}
 -- the log with other slots
 abbrev pub with_slots : Log → List Slot → Log
 with_slots log slots = record log { slots = slots }
-
--- the table with another slot at a number
-abbrev pub with_slot : Table → ℕ → Slot → Table
-with_slot t n s = record { shmem = t.shmem; chunk = t.chunk; made = t.made; slots = set t.slots n s }
 
 -- a slot that is filled, of the log that comes of it
 fills_from : (n : ℕ) (id : Piece) (text : List ℕ) (log now : Log) (device : DeviceState)

@@ -32,7 +32,7 @@ fn two_paths_with_one_gfid_are_two_files(rt: HostRuntime) -> Result<(), Fail> {
 fn a_path_is_filed_at_its_owner(rt: HostRuntime) -> Result<(), Fail> {
     let alloc = rt.alloc();
     let mut owners = empty_servers(alloc, 4)?;
-    add_path(alloc, &mut owners, 4, b"/unifyfs/a")?;
+    file_path(alloc, &mut owners, 4, b"/unifyfs/a")?;
     let filed = |server: usize| {
         owners.get(server).is_some_and(|owner| {
             owner.get(0xcd2d_41dd_5e07_ef11, b"/unifyfs/a").is_some()

@@ -4,7 +4,7 @@ use Rattle.placement.specs.Placement.{gfid, owner}
 use Rattle.core_machine.specs.declared.owner_files.OwnerFiles.{OwnerFiles}
 use Rattle.core_machine.specs.OwnerFiles.{AddsFile}
 use Rattle.core_machine.proofs.OwnersOfPaths.{home, ChangesPath-at}
-use Rattle.core_machine.proofs.owners.add_path.Goals as goal
+use Rattle.core_machine.proofs.owners.file_path.Goals as goal
 
 pub returns : goal.returns
 returns c =
