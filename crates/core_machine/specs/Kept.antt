@@ -1,7 +1,6 @@
 -- What the core keeps for a path and for a client on it, as the words of the machine.
 use Rattle.std.specs.Prelude.{◌≡◌, ℕ, false, nat_le, is_some, List, [], length, All, Option, Some, None, Vec, IfSome, if◌then◌else◌}
 use Rattle.fs_script.specs.Vocabulary.{File, Job}
-use Rattle.core_machine.specs.declared.extent.Extent.{Extent}
 use Rattle.core_machine.specs.declared.noted.Noted.{Noted}
 use Rattle.core_machine.specs.declared.path_state.OwnedPath.{OwnedPath}
 use Rattle.core_machine.specs.declared.path_state.ClientPath.{ClientPath}

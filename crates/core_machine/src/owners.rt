@@ -25,7 +25,12 @@ fn empty_servers(alloc: Global, servers: u32) -> Result<Vec<OwnerFiles>, Want>
 }
 
 // Adds a path to the files of its owner.
-fn file_path(alloc: Global, owners: &mut [OwnerFiles], servers: u32, path: &[u8]) -> Result<(), Want>
+fn file_path(
+    alloc: Global,
+    owners: &mut [OwnerFiles],
+    servers: u32,
+    path: &[u8],
+) -> Result<(), Want>
     requires some { 1 ≤ servers }
     requires sized { length owners.old ≡ servers }
     ensures { OnOk result (AddsPath owners.old owners.new path.now) }

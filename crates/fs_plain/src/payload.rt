@@ -24,7 +24,7 @@ fn rest_of_block(at: u64) -> u64
 
 // Puts what line `n` writes from its byte `from` on, to the end of the block where that stands, and
 // says how far it has come.
-fn put_in_block(
+fn put_next_part(
     alloc: Global,
     s: &Script,
     n: LineNo,
@@ -64,7 +64,7 @@ fn put_payload(
     let len = s.payload_len(n);
     let mut from = 0;
     while from < len {
-        from = put_in_block(alloc, s, n, off, from, bytes)?;
+        from = put_next_part(alloc, s, n, off, from, bytes)?;
     }
     Ok(())
 }

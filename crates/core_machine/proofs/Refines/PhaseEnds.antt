@@ -1,6 +1,6 @@
 -- The end of a phase: all clients are told of every path, and all that is kept goes on holding in the next phase.
 use Rattle.fs_types.proofs.Common.{◌≡◌, ℕ, zero, suc, ◌<◌, Bool, false, cond, List, [], ◌∷◌, length, map, Option, Some, None, IsSome}
-use Rattle.fs_types.proofs.Common.{is_some, Vec, nat_lt, count_by, slice_index, refl, sym, ap, ◌∙◌, subst, arith, zip, slice_get}
+use Rattle.fs_types.proofs.Common.{is_some, nat_lt, count_by, slice_index, refl, sym, ap, ◌∙◌, subst, arith, zip, slice_get}
 use Rattle.fs_types.proofs.Common.{AllByRecursion, lt-ltb, length-map, sum_by-cons, map-map, same_Some}
 use Rattle.fs_script.specs.Vocabulary.{Given, answer_at, Job, phase, Answering}
 use Rattle.core_machine.specs.Vocabulary.{FileExtents, OwnedPath, PathState, known_of, file_of, board_now, with_board, Places, IsAnsweredUpTo}

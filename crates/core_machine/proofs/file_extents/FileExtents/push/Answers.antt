@@ -1,4 +1,4 @@
-use Rattle.fs_types.proofs.Common.{◌≡◌, ◌∙◌, ◌+◌, length, List, max, sym, ap, subst, arith}
+use Rattle.fs_types.proofs.Common.{◌∙◌, ◌+◌, length, List, max, sym, ap, subst, arith}
 use Rattle.fs_script.proofs.CallerLemmas.{AllByRecursion-push}
 use Rattle.core_machine.specs.Vocabulary.{Extent, IsExtent, AreExtents, bytes_of_extents}
 use Rattle.core_machine.proofs.Extents.Bytes.{length-bytes_of_extents-push}
