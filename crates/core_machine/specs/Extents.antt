@@ -24,7 +24,8 @@ lines_of_extents xs = map (λ x. x.line) xs
 abbrev pub bytes_of_extents : Job → List Extent → List ℕ
 bytes_of_extents s xs = put_lines s (bytes_of s) (lines_of_extents xs) []
 
--- the extents of a file are writes of the job, and its length is that of the file which they make
+-- the extents of a file are writes of the job, and its length is that of the file which they make, which is no longer than
+-- the longest
 pub record IsFileOf (s : Job) (file : FileExtents) : Type 0 where
   pub written : AreExtents s file.extents.items
   pub length : file.len ≡ length (bytes_of_extents s file.extents.items)

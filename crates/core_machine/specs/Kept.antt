@@ -36,7 +36,7 @@ kept_now s x k = record {
   at_front = known_from (later_of k.noted x.board);
 }
 
--- the extents of the file, and the pending ones, are writes of the job
+-- the extents of the file, and the pending ones, are writes of the job, and the length that is kept is the file's
 pub record AreSound (s : Job) (x : OwnedPath) (k : ClientPath) : Type 0 where
   pub written : IfSome x.file (IsFileOf s)
   pub pending : AreExtents s k.pending.items

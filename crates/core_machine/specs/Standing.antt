@@ -15,8 +15,8 @@ use Rattle.core_machine.specs.Turns.{Places}
 abbrev pub script_end : Job → ℕ
 script_end s = length s.lines + 2
 
--- the owner's part: all lines of the journal were answered, the file is what they make, and the board has how many of
--- them are of earlier phases than the run's, with what is known of the file then
+-- the owner's part: all lines of the journal were answered, the file is what they make, with its length kept beside it, and
+-- the board has how many of them are of earlier phases than the run's, with what is known of the file then
 pub record StandsForOwner (s : Job) (A : Answering) (now : ℕ) (x : OwnedPath) : Type 0 where
   pub answered : AllByRecursion (λ m. IsSome (A m)) x.journal.items
   pub written : IfSome x.file (IsFileOf s)

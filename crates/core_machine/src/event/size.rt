@@ -1,7 +1,6 @@
 //! A size: the length of the file as its owner has it.
 
 ghost use Rattle.std.specs.Prelude.{◌≡◌, ℕ, ◌+◌, ◌^◌, ◌<◌, length};
-ghost use Rattle.core_machine.specs.Extents.{AreExtents, bytes_of_extents};
 ghost use Rattle.core_machine.specs.Follows.{Follows};
 ghost use Rattle.core_machine.specs.Kept.{AreSound};
 
