@@ -161,7 +161,7 @@ module _ (entries : List Entry) (total : ℕ) where
 
 -- ---- the same of entries with their flags
 
-module _ (shmem chunk total : ℕ) (free : List Bool) (entries : List Entry) (are : AreEntries shmem chunk total free entries) where
+module _ {shmem chunk total : ℕ} {free : List Bool} {entries : List Entry} (are : AreEntries shmem chunk total free entries) where
   pub length-flags : length free ≡ length entries
   length-flags = ap length are.flags ∙ length-map entries is_unheld
 
