@@ -4,10 +4,10 @@ use Rattle.std.proofs.Common.{slice_get, get_or, map, replicate, take, drop, sli
 use Rattle.std.proofs.Common.{sym, ◌∙◌, ap, refl, inl, inr, subst}
 use Rattle.std.proofs.lemmas.Bool.{eq-eqb, ne_eqb, eqb-true, cases_lt}
 use Rattle.std.proofs.lemmas.List.{length-set, length-map, length-append}
-use Rattle.std.proofs.lemmas.Option.{slice_get_within, slice_get-map, slice_get_cases}
+use Rattle.std.proofs.lemmas.Option.{slice_get_within, slice_get-map}
 use Rattle.std.specs.Option.{option_map}
 use Rattle.slot_plain.specs.FreePlaces.{free_places, free_from}
-use Rattle.slot_plain.specs.Slots.{Slot, free_slot, taken_slot, pinned, released, filled, bytes_of_slot, HasPieceOf, slot_at, free_slots}
+use Rattle.slot_plain.specs.Slots.{Slot, free_slot, taken_slot, released, filled, bytes_of_slot, HasPieceOf, slot_at, free_slots}
 use Rattle.slot_plain.specs.Slots.{is_free, with_taken}
 use Rattle.slot_plain.specs.Entries.{Table, table_of, entry_slot, slots_of, is_unheld, IsEntry, AreEntries}
 use Rattle.slot_plain.specs.declared.entry.Entry.{Entry}

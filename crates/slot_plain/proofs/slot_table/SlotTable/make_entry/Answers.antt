@@ -1,4 +1,4 @@
-use Rattle.std.proofs.Common.{arith, length, refl, None, ◌∙◌, ap, ◌++◌, ◌∷◌, [], List}
+use Rattle.std.proofs.Common.{arith, refl, None, ◌∙◌, ap, ◌++◌, ◌∷◌, [], List}
 use Rattle.slot_plain.specs.declared.entry.Entry.{Entry}
 use Rattle.slot_plain.proofs.TableSteps.{made-entries, made-table}
 use Rattle.slot_plain.proofs.slot_table.SlotTable.make_entry.Goals as goal
