@@ -136,6 +136,9 @@ module _ {nodes : List ℕ} {room len total : ℕ} (keeps : KeepsFree nodes room
   pub lowest_free : (slot : ℕ) → slot ≡ tree_node nodes 1 → 0 < length (free_places flags) → slice_get flags slot ≡ Some true
   lowest_free slot low some = (IsLowest-root slot low some).free
 
+  pub lowest_within : (slot : ℕ) → slot ≡ tree_node nodes 1 → 0 < length (free_places flags) → slot < room
+  lowest_within slot low some = slot_within slot (lowest_free slot low some)
+
   -- ---- a leaf that is set
 
   module _ {new : List ℕ} {after slot value : ℕ} (same : after ≡ room) (tree : IsTree new room)
@@ -263,3 +266,9 @@ module _ {nodes : List ℕ} {room len total : ℕ} (keeps : KeepsFree nodes room
           ];
           count = rw widened-flags total_is;
         }
+
+pub ruleset put_back_laws = (slot_within, total_below, put_back-flags)
+
+pub ruleset take_laws = (lowest_within, lowest_free, taken-keeps, taken-lowest, taken-flags)
+
+pub ruleset widen_laws = (total-le, widened-keeps)

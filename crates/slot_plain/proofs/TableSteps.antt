@@ -13,7 +13,8 @@ use Rattle.slot_plain.specs.Entries.{Table, table_of, entry_slot, slots_of, is_u
 use Rattle.slot_plain.specs.declared.entry.Entry.{Entry}
 use Rattle.slot_plain.specs.declared.entry.FilledPiece.{FilledPiece}
 use Rattle.std.proofs.lemmas.Slice.{between_is}
-use Rattle.slot_plain.proofs.Lists.{slice_get-read, set-same}
+use Rattle.std.proofs.lemmas.List.{set-get_or}
+use Rattle.std.proofs.lemmas.Option.{slice_get_read, get_or_from_slice_get}
 use Rattle.slot_plain.proofs.FreeLists.{length-free_from-le}
 use Rattle.slot_plain.proofs.Tables.{slot_at-entry, slot_at-none, held-has_entry, slots_of-set, slots_of-push, free_slots-slots_of}
 use Rattle.slot_plain.proofs.Tables.{length-slots_of, AreEntries-set, AreEntries-push, length-flags, free_flags}
@@ -56,7 +57,7 @@ module _ {shmem chunk total : ℕ} {free : List Bool} {entries : List Entry} (ar
 
   module _ (n : ℕ) {now : Entry} (within : n < length entries) (read : now ≡ get_or entries n now) where
     entry_at : slice_get entries n ≡ Some now
-    entry_at = slice_get-read entries n now within read
+    entry_at = slice_get_read entries (length entries) n now refl within read
 
     entry_is : IsEntry shmem chunk n now
     entry_is = are.each n now entry_at
@@ -84,7 +85,8 @@ module _ {shmem chunk total : ℕ} {free : List Bool} {entries : List Entry} (ar
         let before : is_unheld now ≡ false = ne_eqb _ _ (λ none. absurd (omega arith)) in
         let after : is_unheld e ≡ false = ne_eqb _ _ (λ none. absurd (omega arith)) in
         AreEntries-set are n e within free
-        (sym (ap (set free n) (after ∙ sym before) ∙ set-same free n (is_unheld now) flag_is)) one
+        (sym (ap (set free n) (after ∙ sym before ∙ sym (get_or_from_slice_get free n (is_unheld now) false flag_is))
+        ∙ set-get_or free n false)) one
 
     -- it is held more often or less
     pub counted-entries : 0 < (slot_at table.slots n).count → {k : ℕ} → 0 < k

@@ -1,7 +1,7 @@
 -- Slots of entries: what a change of an entry is to the slots.
 use Rattle.std.proofs.Common.{◌≡◌, ℕ, suc, zero, ◌+◌, ◌-◌, ◌≤◌, ◌<◌, Bool, true, false, List, [], ◌∷◌, ◌++◌, Some, length, set}
 use Rattle.std.proofs.Common.{slice_get, map, replicate, arith}
-use Rattle.std.proofs.Common.{sym, ◌∙◌, ap, refl, inl, inr, subst, count_by, if◌then◌else◌}
+use Rattle.std.proofs.Common.{sym, ◌∙◌, ap, refl, ◌⊎◌, inl, inr, subst, count_by, if◌then◌else◌}
 use Rattle.std.proofs.lemmas.Bool.{cases_lt, cases_eq, eq-eqb, ne_eqb, lt-ltb, le-ltb}
 use Rattle.std.proofs.lemmas.List.Sums.{sum_by-append, sum_by-cons}
 use Rattle.std.proofs.lemmas.List.{length-set, length-append, length-map, length-replicate, map-set, map-append, set-append_left}
@@ -12,8 +12,21 @@ use Rattle.slot_plain.specs.FreePlaces.{free_from, free_places}
 use Rattle.slot_plain.specs.Slots.{Slot, free_slot, is_free, is_held, slot_at, free_slots, held_count}
 use Rattle.slot_plain.specs.Entries.{entry_slot, slots_of, is_unheld, IsEntry, AreEntries}
 use Rattle.slot_plain.specs.declared.entry.Entry.{Entry}
-use Rattle.slot_plain.proofs.Lists.{slice_get-set_same, slice_get-set_other, slice_get-push}
+use Rattle.fs_script.proofs.CallerLemmas.{slice_get-set_same, slice_get-set_other}
 use Rattle.slot_plain.proofs.FreeLists.{length-free_from-le}
+
+-- ---- lists
+
+-- an element of a list that has one more at its end
+slice_get-push : {X : Type 0} (xs : List X) (y : X) (i : ℕ) (x : X) → slice_get (xs ++ y ∷ []) i ≡ Some x
+    → (slice_get xs i ≡ Some x) ⊎ ((i ≡ length xs) × (y ≡ x))
+slice_get-push [] y zero x at = inr (refl, cc)
+slice_get-push [] y (suc i) x at = cc
+slice_get-push (z ∷ xs) y zero x at = inl at
+slice_get-push (z ∷ xs) y (suc i) x at = elim (slice_get-push xs y i x at) [
+  | inl was ↦ inl was
+  | inr more ↦ inr (ap suc more.0, more.1)
+]
 
 -- ---- flags one after another
 

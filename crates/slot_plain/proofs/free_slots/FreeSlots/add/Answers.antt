@@ -1,20 +1,12 @@
-use Rattle.std.proofs.Common.{arith, rules}
-use Rattle.slot_plain.proofs.FreeTrees.{total-le, widened-keeps, widened-flags, added-keeps, added-flags}
+use Rattle.std.proofs.Common.{rules}
+use Rattle.slot_plain.proofs.FreeTrees.{widened-keeps, widened-flags, added-keeps, added-flags}
 use Rattle.slot_plain.proofs.free_slots.FreeSlots.add.Goals as goal
-
-pub invariant_of-self : goal.invariant_of-self
-invariant_of-self c =
-    let w = c.widen_for.ensures in widened-keeps c.self.invariant c.self.view_is w.more w.tree w.leaves
 
 pub returns-in_err-widen_for-clause-err : goal.returns-in_err-widen_for-clause-err
 returns-in_err-widen_for-clause-err c =
     let w = c.widen_for.ensures in
     let flags = widened-flags c.self.invariant c.self.view_is w.more w.tree w.leaves in
     search rules
-
-pub overflow_add-self-2 : goal.overflow_add-self-2
-overflow_add-self-2 c =
-    let numbers = c.self.invariant.numbers in omega (arith, total-le c.self.invariant c.self.view_is, numbers)
 
 pub invariant_of-self-2 : goal.invariant_of-self-2
 invariant_of-self-2 c =
