@@ -9,7 +9,7 @@ use Rattle.std.proofs.lemmas.Option.{slice_get_within, get_or_from_slice_get, sl
 use Rattle.slot_plain.specs.FreePlaces.{free_places}
 use Rattle.slot_plain.specs.LeastTree.{tree_node, IsTree, LeafSet, Widens, flags_in, KeepsFree}
 use Rattle.slot_plain.specs.declared.least_tree.TheConstants.{NO_SLOT}
-use Rattle.slot_plain.proofs.FreeLists.{free_from-lowest, length-free_from-set, free_from-push, free_place, length-free_from-le}
+use Rattle.slot_plain.proofs.FreeLists.{free_from-lowest, length-free_from-set, free_from-append, free_place, length-free_from-le}
 
 -- ---- the root
 
@@ -239,7 +239,7 @@ module _ {nodes : List ℕ} {room len total : ℕ} (keeps : KeepsFree nodes room
       ];
       none = λ s past in_room. leaf.others s in_room (λ last. absurd (omega arith)) ∙ keeps.none s (omega arith) in_room;
       count =
-          let pushed = ap length (free_from-push 0 flags) in
+          let pushed = ap length (free_from-append 0 (0 + length flags) flags (true ∷ []) refl) in
           rw (← same, added-flags) (omega (arith, pushed, length_push (free_places flags) (0 + length flags), total_is));
     })
 

@@ -249,7 +249,8 @@ module _ {t : Table} {device : DeviceState} (backs : Backs t device) where
             → IfSome (bytes_of_slot (slot_at t.slots n)) (λ bytes. out ≡ slice_range bytes from (from + size))
             → IfSome (bytes_of_slot (slot_at log.slots n)) (λ bytes. out ≡ slice_range bytes from (from + size))
         read_log out shared given =
-            rw (slot_is n ∙ told-in_memory t.shmem t.chunk device.cells n (slot_at t.slots n) (ltb-true n t.shmem (sym test ∙ shared))) given
+            let told = told-in_memory t.shmem t.chunk device.cells n (slot_at t.slots n) (ltb-true n t.shmem (sym test ∙ shared)) in
+            rw (slot_is n ∙ told) given
 
         -- from the device
         module _ (no : in_memory ≡ false) {at : ℕ} (place : at ≡ spill_place t.shmem t.chunk n + from) where

@@ -58,7 +58,7 @@ module _ (shmem chunk : ℕ) (cells : Option (List (Option ℕ))) where
   told-set_from n [] k m s is = refl
   told-set_from n (x ∷ slots) zero m s is =
       ap (λ i. told_slot shmem chunk cells i s ∷ told_slots shmem chunk cells (suc n) slots) (omega arith)
-  told-set_from n (x ∷ slots) (suc k) m s is = ap (λ rest. told_slot shmem chunk cells n x ∷ rest) (told-set_from (suc n) slots k m s (omega arith))
+  told-set_from n (x ∷ slots) (suc k) m s is = let rest = told-set_from (suc n) slots k m s (omega arith) in cc
 
   pub told-set : (slots : List Slot) (k : ℕ) (s : Slot) → told_slots shmem chunk cells 0 (set slots k s)
       ≡ set (told_slots shmem chunk cells 0 slots) k (told_slot shmem chunk cells k s)

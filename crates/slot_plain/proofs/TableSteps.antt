@@ -16,7 +16,7 @@ use Rattle.std.proofs.lemmas.Slice.{between_is}
 use Rattle.std.proofs.lemmas.List.{set-get_or}
 use Rattle.std.proofs.lemmas.Option.{slice_get_read, get_or_from_slice_get}
 use Rattle.slot_plain.proofs.FreeLists.{length-free_from-le}
-use Rattle.slot_plain.proofs.Tables.{slot_at-entry, slot_at-none, held-has_entry, slots_of-set, slots_of-push, free_slots-slots_of}
+use Rattle.slot_plain.proofs.Tables.{slot_at-entry, slot_at-none, slots_of-set, slots_of-push, free_slots-slots_of}
 use Rattle.slot_plain.proofs.Tables.{length-slots_of, AreEntries-set, AreEntries-push, length-flags, free_flags}
 
 -- the table with another slot at a number
@@ -39,20 +39,22 @@ module _ {shmem chunk total : ℕ} {free : List Bool} {entries : List Entry} (ar
   slots_is : slots_of entries total ≡ table.slots
   slots_is = ap (λ (t : Table). t.slots) is
 
+  -- a slot without an entry is free
+  slot_free : (n : ℕ) → length entries ≤ n → slot_at table.slots n ≡ free_slot
+  slot_free n none = rw (← slots_is) (slot_at-none entries total n none)
+
   -- a slot that is held has an entry
   pub entry_of_held : (n : ℕ) → 0 < (slot_at table.slots n).count → n < length entries
-  entry_of_held n held =
-      let count = ap (λ slots. (slot_at slots n).count) slots_is in
-      let found = held-has_entry entries total n (omega (arith, held, count)) in
-      slice_get_within entries n found.0 found.1
+  entry_of_held n held = elim (cases_lt n (length entries)) [
+    | inl within ↦ within
+    | inr none ↦ let count = ap (λ (s : Slot). s.count) (slot_free n none) in absurd (omega (arith, held, count))
+  ]
 
   -- so has one that has a piece
   pub entry_of_piece : (n len : ℕ) → HasPieceOf (slot_at table.slots n) len → n < length entries
   entry_of_piece n len has = elim (cases_lt n (length entries)) [
     | inl within ↦ within
-    | inr none ↦
-        let slot = ap (λ slots. slot_at slots n) (sym slots_is) ∙ slot_at-none entries total n none in
-        absurd (subst (λ (s : Slot). HasPieceOf s len) slot has)
+    | inr none ↦ absurd (subst (λ (s : Slot). HasPieceOf s len) (slot_free n none) has)
   ]
 
   module _ (n : ℕ) {now : Entry} (within : n < length entries) (read : now ≡ get_or entries n now) where
