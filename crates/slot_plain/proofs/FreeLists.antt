@@ -1,7 +1,6 @@
 -- Free places of a list of flags: after a place is taken, put back or added.
 use Rattle.std.proofs.Common.{◌≡◌, ℕ, suc, zero, ◌+◌, ◌≤◌, ◌<◌, Bool, true, false, List, [], ◌∷◌, ◌++◌, Some, length, set, slice_get}
-use Rattle.std.proofs.Common.{get_or, arith}
-use Rattle.std.proofs.Common.{◌∙◌, ap, refl}
+use Rattle.std.proofs.Common.{get_or, arith, ◌∙◌, ap, refl}
 use Rattle.std.proofs.lemmas.Bool.{true≢false}
 use Rattle.slot_plain.specs.FreePlaces.{free_from}
 

@@ -1,7 +1,6 @@
 -- What the calls of a log do to its table and its device, and to the log that a clause sees.
 use Rattle.std.proofs.Common.{◌≡◌, ◌≢◌, ℕ, ◌+◌, ◌-◌, ◌≤◌, ◌<◌, nat_lt, Bool, true, false, List, Option, Some, None, IfSome, IsSomeAnd}
-use Rattle.std.proofs.Common.{if◌then◌else◌, length, set, slice_range, arith}
-use Rattle.std.proofs.Common.{sym, ◌∙◌, ap, refl, inl, inr, subst}
+use Rattle.std.proofs.Common.{if◌then◌else◌, length, set, slice_range, arith, sym, ◌∙◌, ap, refl, inl, inr, subst}
 use Rattle.std.specs.Option.{option_map, ForSome}
 use Rattle.std.proofs.lemmas.Bool.{cases_lt, ltb-true, ltb-false}
 use Rattle.fs_types.specs.Pieces.{Piece}

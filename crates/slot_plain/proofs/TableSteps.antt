@@ -3,8 +3,8 @@ use Rattle.std.proofs.Common.{◌≡◌, ◌≢◌, ℕ, ◌+◌, ◌-◌, ◌�
 use Rattle.std.proofs.Common.{slice_get, get_or, map, replicate, take, drop, slice_range, Option, IfSome, Vec, Global, take-take, arith}
 use Rattle.std.proofs.Common.{sym, ◌∙◌, ap, refl, inl, inr, subst}
 use Rattle.std.proofs.lemmas.Bool.{eq-eqb, ne_eqb, eqb-true, cases_lt}
-use Rattle.std.proofs.lemmas.List.{length-set, length-map, length-append}
-use Rattle.std.proofs.lemmas.Option.{slice_get_within, slice_get-map}
+use Rattle.std.proofs.lemmas.List.{length-set, length-map, length-append, set-get_or}
+use Rattle.std.proofs.lemmas.Option.{slice_get_within, slice_get-map, slice_get_read, get_or_from_slice_get}
 use Rattle.std.specs.Option.{option_map}
 use Rattle.slot_plain.specs.FreePlaces.{free_places, free_from}
 use Rattle.slot_plain.specs.Slots.{Slot, free_slot, taken_slot, released, filled, bytes_of_slot, HasPieceOf, slot_at, free_slots}
@@ -13,8 +13,6 @@ use Rattle.slot_plain.specs.Entries.{Table, table_of, entry_slot, slots_of, is_u
 use Rattle.slot_plain.specs.declared.entry.Entry.{Entry}
 use Rattle.slot_plain.specs.declared.entry.FilledPiece.{FilledPiece}
 use Rattle.std.proofs.lemmas.Slice.{between_is}
-use Rattle.std.proofs.lemmas.List.{set-get_or}
-use Rattle.std.proofs.lemmas.Option.{slice_get_read, get_or_from_slice_get}
 use Rattle.slot_plain.proofs.FreeLists.{length-free_from-le}
 use Rattle.slot_plain.proofs.Tables.{slot_at-entry, slot_at-none, slots_of-set, slots_of-push, free_slots-slots_of}
 use Rattle.slot_plain.proofs.Tables.{length-slots_of, AreEntries-set, AreEntries-push, length-flags, free_flags}

@@ -1,15 +1,14 @@
 -- Slots of entries: what a change of an entry is to the slots.
-use Rattle.std.proofs.Common.{◌≡◌, ℕ, suc, zero, ◌+◌, ◌-◌, ◌≤◌, ◌<◌, Bool, true, false, List, [], ◌∷◌, ◌++◌, Some, length, set}
-use Rattle.std.proofs.Common.{slice_get, map, replicate, arith}
-use Rattle.std.proofs.Common.{sym, ◌∙◌, ap, refl, ◌⊎◌, inl, inr, subst, count_by, if◌then◌else◌}
+use Rattle.std.proofs.Common.{◌≡◌, ℕ, suc, zero, ◌+◌, ◌-◌, ◌≤◌, ◌<◌, Bool, true, false, List, [], ◌∷◌, ◌++◌, Some, length, set, slice_get}
+use Rattle.std.proofs.Common.{map, replicate, arith, sym, ◌∙◌, ap, refl, ◌⊎◌, inl, inr, subst, count_by, if◌then◌else◌}
 use Rattle.std.proofs.lemmas.Bool.{cases_lt, cases_eq, eq-eqb, ne_eqb, lt-ltb, le-ltb}
 use Rattle.std.proofs.lemmas.List.Sums.{sum_by-append, sum_by-cons}
 use Rattle.std.proofs.lemmas.List.{length-set, length-append, length-map, length-replicate, map-set, map-append, set-append_left}
 use Rattle.std.proofs.lemmas.List.{get_or_append_left, get_or-append_right, get_or_past, get_or-replicate, get_or-map, append_assoc}
 use Rattle.std.proofs.lemmas.List.{length_push, map_push}
-use Rattle.std.proofs.lemmas.Option.{slice_get_within, get_or_from_slice_get, slice_get_cases}
+use Rattle.std.proofs.lemmas.Option.{slice_get_within, get_or_from_slice_get}
 use Rattle.slot_plain.specs.FreePlaces.{free_from, free_places}
-use Rattle.slot_plain.specs.Slots.{Slot, free_slot, is_free, is_held, slot_at, free_slots, held_count}
+use Rattle.slot_plain.specs.Slots.{free_slot, is_free, is_held, slot_at, free_slots, held_count}
 use Rattle.slot_plain.specs.Entries.{entry_slot, slots_of, is_unheld, IsEntry, AreEntries}
 use Rattle.slot_plain.specs.declared.entry.Entry.{Entry}
 use Rattle.fs_script.proofs.CallerLemmas.{slice_get-set_same, slice_get-set_other}
