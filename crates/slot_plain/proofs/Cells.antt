@@ -2,19 +2,16 @@
 use Rattle.std.proofs.Common.{◌≡◌, ℕ, suc, zero, ◌+◌, ◌-◌, ◌≤◌, List, [], ◌∷◌, ◌++◌, Option, Some, None, IsSome, IfSome, All, length}
 use Rattle.std.proofs.Common.{take, drop, map, slice_range, unwrap_or, arith, sym, ◌∙◌, ap, refl, ◌⊎◌, inl, inr, subst, take-take}
 use Rattle.std.specs.Option.{option_map, ForSome}
-use Rattle.std.proofs.lemmas.List.{length-take, length-drop, length-append, length-map, take_at, drop_at, take-append-le}
+use Rattle.std.proofs.lemmas.List.{length-append, length-map, take_at, drop_at, take-append-le}
 use Rattle.std.proofs.lemmas.List.{length-take-le, drop-drop, drop-take, append_assoc, take-map, drop-map}
 use Rattle.std.proofs.lemmas.List.Elements.{All-take, All-drop}
-use Rattle.std.proofs.lemmas.Slice.{between_is}
+use Rattle.std.proofs.lemmas.Slice.{between_is, drop-append-drop}
 use Rattle.fs_dev.specs.SpillDev.{put_cells, Wrote, LeftOpen, WasWritten, HoldsAt}
 use Rattle.slot_plain.specs.Log.{bytes_from}
 
 module _ {X : Type 0} where
   part : (i n : ℕ) (xs : List X) → slice_range xs i (i + n) ≡ take n (drop i xs)
   part i n xs = ap (λ m. take m (drop i xs)) (let h : (i + n) - i ≡ n = omega arith in h)
-
-  length-slice_range : (xs : List X) (i n : ℕ) → i + n ≤ length xs → length (slice_range xs i (i + n)) ≡ n
-  length-slice_range xs i n within = omega (arith, length-take ((i + n) - i) (drop i xs), length-drop i xs)
 
   -- a part of a part
   pub slice_range-slice_range : (xs : List X) (at n i m : ℕ) → i + m ≤ n
@@ -33,27 +30,16 @@ module _ {X : Type 0} where
 put_cells-other : (held cells : List (Option ℕ)) (at i n : ℕ) → at + length cells ≤ length held
     → ((i + n ≤ at) ⊎ (at + length cells ≤ i)) → slice_range (put_cells at cells held) i (i + n) ≡ slice_range held i (i + n)
 put_cells-other held cells at i n within (inl before) =
-    let first = take at held in
-    let size : length first ≡ at = length-take-le at held (omega arith) in
-    let both = length-append first cells in
+    let size : length (take at held) ≡ at = length-take-le at held (omega arith) in
     between_is (put_cells at cells held) i (i + n)
-    ∙ ap (drop i) (take-append-le (i + n) (first ++ cells) (drop (at + length cells) held) (omega (arith, both, size, before))
-    ∙ take-append-le (i + n) first cells (omega (arith, size, before))
-    ∙ take-take (i + n) at held before)
+    ∙ ap (drop i) (take-append-le (i + n) (take at held ++ cells) (drop (at + length cells) held)
+    (omega (arith, length-append (take at held) cells))
+    ∙ take-append-le (i + n) (take at held) cells (omega arith) ∙ take-take (i + n) at held before)
     ∙ sym (between_is held i (i + n))
 put_cells-other held cells at i n within (inr behind) =
-    let e : ℕ = at + length cells in
-    let first = take at held in
-    let size : length first ≡ at = length-take-le at held (omega arith) in
-    let both : length (first ++ cells) ≡ e = length-append first cells ∙ ap (λ k. k + length cells) size in
-    let far : i ≡ e + (i - e) = omega arith in
-    part i n (put_cells at cells held)
-    ∙ ap (take n) (ap (λ k. drop k (put_cells at cells held)) far
-    ∙ sym (drop-drop (i - e) e (put_cells at cells held))
-    ∙ ap (drop (i - e)) (drop_at (first ++ cells) (drop e held) e both)
-    ∙ drop-drop (i - e) e held
-    ∙ ap (λ k. drop k held) (sym far))
-    ∙ sym (part i n held)
+    let size : length (take at held ++ cells) ≡ at + length cells =
+    omega (arith, length-append (take at held) cells, length-take-le at held (omega arith)) in
+    ap (take ((i + n) - i)) (drop-append-drop (at + length cells) held (take at held ++ cells) i behind size)
 
 -- and stand in their own
 put_cells-same : (held cells : List (Option ℕ)) (at : ℕ) → at + length cells ≤ length held
@@ -87,42 +73,37 @@ All-some (b ∷ bytes) zero d lt = refl
 All-some (b ∷ bytes) (suc k) d lt = All-some bytes k d (omega arith)
 
 All-part : (xs : List (Option ℕ)) (i n : ℕ) → All IsSome xs → All IsSome (slice_range xs i (i + n))
-All-part xs i n all = subst (All IsSome) (sym (part i n xs)) (All-take IsSome n (drop i xs) (All-drop IsSome i xs all))
+All-part xs i n all = All-take IsSome ((i + n) - i) (drop i xs) (All-drop IsSome i xs all)
 
 -- a range of the device that another range was left open beside, or written beside, keeps its bytes
 pub LeftOpen-other : (at n i len : ℕ) (old new : Option (List (Option ℕ))) → ForSome old (λ held. at + n ≤ length held)
     → ((i + len ≤ at) ⊎ (at + n ≤ i)) → LeftOpen at n old new
     → (bytes_from i len new ≡ bytes_from i len old) × (WasWritten i len old → WasWritten i len new)
-LeftOpen-other at n i len None new within apart (cells, size, is) =
-    (ap (bytes_from i len) is, λ all. subst (λ (o : Option (List (Option ℕ))). WasWritten i len o) (sym is) all)
+LeftOpen-other at n i len None new within apart (cells, size, is) = rw is (refl, λ all. all)
 LeftOpen-other at n i len (Some held) new within apart (cells, size, is) =
     let room = within held refl in
-    let beside : (i + len ≤ at) ⊎ (at + length cells ≤ i) =
-    elim apart [ inl before ↦ inl before | inr behind ↦ inr (omega (arith, behind, size)) ] in
-    let same = put_cells-other held cells at i len (omega (arith, room, size)) beside in (
-      ap (bytes_from i len) is ∙ ap (λ (r : List (Option ℕ)). Some (map (λ (cell : Option ℕ). unwrap_or cell 0) r)) same,
-      λ all. subst (λ (o : Option (List (Option ℕ))). WasWritten i len o) (sym is)
-          (written_some i len (put_cells at cells held) (subst (All IsSome) (sym same) (all held refl))),
+    let beside : (i + len ≤ at) ⊎ (at + length cells ≤ i) = rw size apart in
+    let same = put_cells-other held cells at i len (omega (arith, room, size)) beside in
+    rw is (
+      ap (λ (r : List (Option ℕ)). Some (map (λ (cell : Option ℕ). unwrap_or cell 0) r)) same,
+      λ all. written_some i len (put_cells at cells held) (rw same (all held refl)),
     )
 
 -- bytes that were written are told
 pub Wrote-same : (at : ℕ) (bytes : List ℕ) (old new : Option (List (Option ℕ))) → ForSome old (λ held. at + length bytes ≤ length held)
     → Wrote at bytes old new
     → (bytes_from at (length bytes) new ≡ option_map (λ _. bytes) old) × WasWritten at (length bytes) new
-Wrote-same at bytes None new within is = (
-  ap (bytes_from at (length bytes)) is,
-  subst (λ (o : Option (List (Option ℕ))). WasWritten at (length bytes) o) (sym is) (λ x e. cc),
-)
+Wrote-same at bytes None new within is = rw is (refl, λ x e. cc)
 Wrote-same at bytes (Some held) new within is =
     let room = within held refl in
+    let size = length-map bytes Some in
     let cells : List (Option ℕ) = map Some bytes in
-    let size : length cells ≡ length bytes = length-map bytes Some in
     let there = put_cells-same held cells at (omega (arith, room, size)) in
     let same : slice_range (put_cells at cells held) at (at + length bytes) ≡ cells =
-    ap (λ m. slice_range (put_cells at cells held) at (at + m)) (sym size) ∙ there in (
-      ap (bytes_from at (length bytes)) is ∙ ap Some (told-map bytes (put_cells at cells held) at same),
-      subst (λ (o : Option (List (Option ℕ))). WasWritten at (length bytes) o) (sym is)
-          (written_some at (length bytes) (put_cells at cells held) (subst (All IsSome) (sym same) (All-some bytes))),
+    ap (λ m. slice_range (put_cells at cells held) at (at + m)) (sym size) ∙ there in
+    rw is (
+      ap Some (told-map bytes (put_cells at cells held) at same),
+      written_some at (length bytes) (put_cells at cells held) (rw same (All-some bytes)),
     )
 
 -- a write leaves the range open, if no more is said of it

@@ -1,7 +1,6 @@
 -- Free places of a list of flags: after a place is taken, put back or added.
 use Rattle.std.proofs.Common.{◌≡◌, ℕ, suc, zero, ◌+◌, ◌≤◌, ◌<◌, Bool, true, false, List, [], ◌∷◌, ◌++◌, Some, length, set, slice_get}
-use Rattle.std.proofs.Common.{get_or, arith}
-use Rattle.std.proofs.Common.{◌∙◌, ap, refl}
+use Rattle.std.proofs.Common.{get_or, arith, ◌∙◌, ap, refl}
 use Rattle.std.proofs.lemmas.Bool.{true≢false}
 use Rattle.slot_plain.specs.FreePlaces.{free_from}
 
@@ -25,13 +24,11 @@ length-free_from-set n (true ∷ rest) (suc i) is = let h = length-free_from-set
 length-free_from-set n (false ∷ rest) zero is = omega arith
 length-free_from-set n (false ∷ rest) (suc i) is = length-free_from-set (suc n) rest i is
 
--- a place that is added free is the last of those that are
-pub free_from-push : (n : ℕ) (flags : List Bool) → free_from n (flags ++ true ∷ []) ≡ free_from n flags ++ (n + length flags) ∷ []
-free_from-push n [] = ap (λ m. m ∷ []) (omega arith)
-free_from-push n (true ∷ rest) =
-    ap (λ xs. n ∷ xs) (free_from-push (suc n) rest ∙ ap (λ m. free_from (suc n) rest ++ m ∷ []) (omega arith))
-free_from-push n (false ∷ rest) =
-    free_from-push (suc n) rest ∙ ap (λ m. free_from (suc n) rest ++ m ∷ []) (omega arith)
+-- what is free of lists one after another
+pub free_from-append : (n m : ℕ) (xs ys : List Bool) → n + length xs ≡ m → free_from n (xs ++ ys) ≡ free_from n xs ++ free_from m ys
+free_from-append n m [] ys is = ap (λ k. free_from k ys) (omega arith)
+free_from-append n m (true ∷ xs) ys is = ap (λ rest. n ∷ rest) (free_from-append (suc n) m xs ys (omega arith))
+free_from-append n m (false ∷ xs) ys is = free_from-append (suc n) m xs ys (omega arith)
 
 -- where some place is free, one is
 pub free_place : (n : ℕ) (flags : List Bool) → 0 < length (free_from n flags) → (i : ℕ) × (slice_get flags i ≡ Some true)

@@ -1,4 +1,3 @@
-mod Lists
 mod FreeLists
 mod LeastTrees
 mod FreeTrees

@@ -1,7 +1,6 @@
 -- The slots of a log, as its table has them and as its device tells their bytes.
-use Rattle.std.proofs.Common.{◌≡◌, ◌≢◌, ℕ, suc, zero, ◌+◌, ◌-◌, ◌*◌, ◌≤◌, ◌<◌, ◌==◌, nat_lt, Bool, true, false, List, [], ◌∷◌, Option}
-use Rattle.std.proofs.Common.{Some, None, IfSome, length, set, map, replicate, if◌then◌else◌, arith}
-use Rattle.std.proofs.Common.{sym, ◌∙◌, ap, refl, ◌⊎◌, inl, inr, subst}
+use Rattle.std.proofs.Common.{◌≡◌, ◌≢◌, ℕ, suc, zero, ◌+◌, ◌-◌, ◌*◌, ◌≤◌, ◌<◌, ◌==◌, nat_lt, Bool, true, false, List, [], ◌∷◌, Option, Some}
+use Rattle.std.proofs.Common.{None, IfSome, length, set, map, replicate, if◌then◌else◌, arith, sym, ◌∙◌, ap, refl, ◌⊎◌, inl, inr, subst}
 use Rattle.std.specs.Option.{option_map, ForSome}
 use Rattle.std.proofs.lemmas.Bool.{cases_order, le-ltb, lt-ltb}
 use Rattle.std.proofs.lemmas.List.{length-set}
@@ -42,32 +41,27 @@ module _ (shmem chunk : ℕ) (cells : Option (List (Option ℕ))) where
   length-told_slots n [] = refl
   length-told_slots n (s ∷ slots) = ap suc (length-told_slots (suc n) slots)
 
-  slot_at-told_from : (n : ℕ) (slots : List Slot) (k : ℕ)
-      → slot_at (told_slots shmem chunk cells n slots) k ≡ told_slot shmem chunk cells (n + k) (slot_at slots k)
-  slot_at-told_from n [] k = refl
-  slot_at-told_from n (s ∷ slots) zero = ap (λ m. told_slot shmem chunk cells m s) (omega arith)
-  slot_at-told_from n (s ∷ slots) (suc k) =
-      slot_at-told_from (suc n) slots k ∙ ap (λ m. told_slot shmem chunk cells m (slot_at slots k)) (omega arith)
+  slot_at-told_from : (n : ℕ) (slots : List Slot) (k m : ℕ) → n + k ≡ m
+      → slot_at (told_slots shmem chunk cells n slots) k ≡ told_slot shmem chunk cells m (slot_at slots k)
+  slot_at-told_from n [] k m is = refl
+  slot_at-told_from n (s ∷ slots) zero m is = ap (λ i. told_slot shmem chunk cells i s) (omega arith)
+  slot_at-told_from n (s ∷ slots) (suc k) m is = slot_at-told_from (suc n) slots k m (omega arith)
 
   -- the slot of a number
   pub slot_at-told : (slots : List Slot) (k : ℕ)
       → slot_at (told_slots shmem chunk cells 0 slots) k ≡ told_slot shmem chunk cells k (slot_at slots k)
-  slot_at-told slots k = slot_at-told_from 0 slots k ∙ ap (λ m. told_slot shmem chunk cells m (slot_at slots k)) (omega arith)
+  slot_at-told slots k = slot_at-told_from 0 slots k k (omega arith)
 
-  told-set_from : (n : ℕ) (slots : List Slot) (k : ℕ) (s : Slot) → told_slots shmem chunk cells n (set slots k s)
-      ≡ set (told_slots shmem chunk cells n slots) k (told_slot shmem chunk cells (n + k) s)
-  told-set_from n [] k s = refl
-  told-set_from n (x ∷ slots) zero s =
-      ap (λ m. told_slot shmem chunk cells m s ∷ told_slots shmem chunk cells (suc n) slots) (omega arith)
-  told-set_from n (x ∷ slots) (suc k) s =
-      ap (λ rest. told_slot shmem chunk cells n x ∷ rest) (told-set_from (suc n) slots k s
-      ∙ ap (λ m. set (told_slots shmem chunk cells (suc n) slots) k (told_slot shmem chunk cells m s)) (omega arith))
+  told-set_from : (n : ℕ) (slots : List Slot) (k m : ℕ) (s : Slot) → n + k ≡ m → told_slots shmem chunk cells n (set slots k s)
+      ≡ set (told_slots shmem chunk cells n slots) k (told_slot shmem chunk cells m s)
+  told-set_from n [] k m s is = refl
+  told-set_from n (x ∷ slots) zero m s is =
+      ap (λ i. told_slot shmem chunk cells i s ∷ told_slots shmem chunk cells (suc n) slots) (omega arith)
+  told-set_from n (x ∷ slots) (suc k) m s is = let rest = told-set_from (suc n) slots k m s (omega arith) in cc
 
   pub told-set : (slots : List Slot) (k : ℕ) (s : Slot) → told_slots shmem chunk cells 0 (set slots k s)
       ≡ set (told_slots shmem chunk cells 0 slots) k (told_slot shmem chunk cells k s)
-  told-set slots k s =
-      told-set_from 0 slots k s
-      ∙ ap (λ m. set (told_slots shmem chunk cells 0 slots) k (told_slot shmem chunk cells m s)) (omega arith)
+  told-set slots k s = told-set_from 0 slots k k s (omega arith)
 
   pub told-with_taken : (numbers : List ℕ) (slots : List Slot)
       → told_slots shmem chunk cells 0 (with_taken numbers slots) ≡ with_taken numbers (told_slots shmem chunk cells 0 slots)
@@ -109,17 +103,12 @@ module _ (shmem chunk : ℕ) (cells : Option (List (Option ℕ))) where
   told-released n s = released_if (s.count == 1) n s
 
   -- a slot of shared memory
-  memory_piece : (b : Bool) (n : ℕ) (o : Option StoredPiece) (other : StoredPiece → StoredPiece) → b ≡ true
-      → option_map (λ p. if b then p else other p) o ≡ o
-  memory_piece true n None other is = refl
-  memory_piece true n (Some p) other is = refl
-  memory_piece false n o other is = cc
+  memory_piece : (n : ℕ) (o : Option StoredPiece) → nat_lt n shmem ≡ true → option_map (told_piece shmem chunk cells n) o ≡ o
+  memory_piece n None is = refl
+  memory_piece n (Some p) is = rw is refl
 
   pub told-in_memory : (n : ℕ) (s : Slot) → n < shmem → told_slot shmem chunk cells n s ≡ s
-  told-in_memory n s lt =
-      ap (λ o. record { count = s.count; piece = o })
-      (memory_piece (nat_lt n shmem) n s.piece
-      (λ p. record { id = p.id; len = p.len; bytes = bytes_from (spill_place shmem chunk n) p.len cells }) (lt-ltb n shmem lt))
+  told-in_memory n s lt = ap (λ o. record s { piece = o }) (memory_piece n s.piece (lt-ltb n shmem lt))
 
   -- a piece behind shared memory
   pub told-spilled : (n : ℕ) (p : StoredPiece) → shmem ≤ n → told_piece shmem chunk cells n p
@@ -127,29 +116,19 @@ module _ (shmem chunk : ℕ) (cells : Option (List (Option ℕ))) where
   told-spilled n p le = let behind : nat_lt n shmem ≡ false = le-ltb n shmem le in rw behind refl
 
 -- cells that tell each slot's piece alike tell the slots alike
-told-alike_from : (shmem chunk : ℕ) (cells cells' : Option (List (Option ℕ))) (n : ℕ) (slots : List Slot)
-    → ((k : ℕ) → told_slot shmem chunk cells (n + k) (slot_at slots k) ≡ told_slot shmem chunk cells' (n + k) (slot_at slots k))
-    → told_slots shmem chunk cells n slots ≡ told_slots shmem chunk cells' n slots
-told-alike_from shmem chunk cells cells' n [] alike = refl
-told-alike_from shmem chunk cells cells' n (s ∷ slots) alike =
-    let here : n + 0 ≡ n = omega arith in
-    let first : told_slot shmem chunk cells n s ≡ told_slot shmem chunk cells' n s =
-    subst (λ (m : ℕ). told_slot shmem chunk cells m s ≡ told_slot shmem chunk cells' m s) here (alike 0) in
-    ap (λ x. x ∷ told_slots shmem chunk cells (suc n) slots) first
-    ∙ ap (λ rest. told_slot shmem chunk cells' n s ∷ rest)
-    (told-alike_from shmem chunk cells cells' (suc n) slots (λ k.
-    let next : n + suc k ≡ suc n + k = omega arith in
-    subst (λ (m : ℕ). told_slot shmem chunk cells m (slot_at slots k) ≡ told_slot shmem chunk cells' m (slot_at slots k)) next
-    (alike (suc k))))
+module _ (shmem chunk : ℕ) (cells cells' : Option (List (Option ℕ))) where
+  told-alike_from : (n : ℕ) (slots : List Slot)
+      → ((k m : ℕ) → n + k ≡ m → told_slot shmem chunk cells m (slot_at slots k) ≡ told_slot shmem chunk cells' m (slot_at slots k))
+      → told_slots shmem chunk cells n slots ≡ told_slots shmem chunk cells' n slots
+  told-alike_from n [] alike = refl
+  told-alike_from n (s ∷ slots) alike =
+      let first = alike 0 n (omega arith) in
+      let rest = told-alike_from (suc n) slots (λ k m is. alike (suc k) m (omega arith)) in cc
 
-pub told-alike : (shmem chunk : ℕ) (cells cells' : Option (List (Option ℕ))) (slots : List Slot)
-    → ((k : ℕ) → told_slot shmem chunk cells k (slot_at slots k) ≡ told_slot shmem chunk cells' k (slot_at slots k))
-    → told_slots shmem chunk cells 0 slots ≡ told_slots shmem chunk cells' 0 slots
-told-alike shmem chunk cells cells' slots alike =
-    told-alike_from shmem chunk cells cells' 0 slots (λ k.
-    let here : k ≡ 0 + k = omega arith in
-    subst (λ (m : ℕ). told_slot shmem chunk cells m (slot_at slots k) ≡ told_slot shmem chunk cells' m (slot_at slots k)) here
-    (alike k))
+  pub told-alike : (slots : List Slot)
+      → ((k : ℕ) → told_slot shmem chunk cells k (slot_at slots k) ≡ told_slot shmem chunk cells' k (slot_at slots k))
+      → told_slots shmem chunk cells 0 slots ≡ told_slots shmem chunk cells' 0 slots
+  told-alike slots alike = told-alike_from 0 slots (λ k m is. let same : m ≡ k = omega arith in rw same (alike k))
 
 -- ---- what a device has room for
 
@@ -179,17 +158,13 @@ pub Backs-set : (t : Table) (device : DeviceState) (n : ℕ) (s : Slot) → Back
     × (t.shmem ≤ n → WasWritten (spill_place t.shmem t.chunk n) p.len device.cells))
     → Backs (record { shmem = t.shmem; chunk = t.chunk; made = t.made; slots = set t.slots n s }) device
 Backs-set t device n s backs one = record {
-  room = let room = backs.room in let size = length-set t.slots n s in
-      subst (λ (m : ℕ). (m - t.shmem) * t.chunk ≤ device.size) (sym size) room;
+  room = rw length-set backs.room;
   fits = λ m p at. elim (slot_at-set t.slots n s m) [
     | inl here ↦ (one p (ap (λ (x : Slot). x.piece) (sym here.1) ∙ at)).0
     | inr other ↦ backs.fits m p (ap (λ (x : Slot). x.piece) (sym other) ∙ at)
   ];
   written = λ m p le at. elim (slot_at-set t.slots n s m) [
-    | inl here ↦
-        let same = here.0 in
-        let there = (one p (ap (λ (x : Slot). x.piece) (sym here.1) ∙ at)).1 (omega arith) in
-        subst (λ (k : ℕ). WasWritten (spill_place t.shmem t.chunk k) p.len device.cells) (sym same) there
+    | inl here ↦ let same = here.0 in rw same ((one p (ap (λ (x : Slot). x.piece) (sym here.1) ∙ at)).1 (omega arith))
     | inr other ↦ backs.written m p le (ap (λ (x : Slot). x.piece) (sym other) ∙ at)
   ];
 }
@@ -201,17 +176,6 @@ Backs-with_taken t device made [] backs = record { room = backs.room; fits = bac
 Backs-with_taken t device made (n ∷ numbers) backs =
     Backs-with_taken (record { shmem = t.shmem; chunk = t.chunk; made = t.made; slots = set t.slots n taken_slot }) device made numbers
     (Backs-set t device n taken_slot backs (λ p none. cc))
-
--- a table that another device backs, which has as many bytes and the pieces that were written
-pub Backs-device : (t : Table) (device device' : DeviceState) → device'.size ≡ device.size
-    → ((n : ℕ) (p : StoredPiece) → t.shmem ≤ n → (slot_at t.slots n).piece ≡ Some p
-    → WasWritten (spill_place t.shmem t.chunk n) p.len device'.cells)
-    → Backs t device → Backs t device'
-Backs-device t device device' size written backs = record {
-  room = let room = backs.room in omega (arith, room, size);
-  fits = backs.fits;
-  written = written;
-}
 
 -- what is said of cells that may be told
 pub every_told : {X : Type 0} (o : Option X) (P : X → Type 0) → IfSome o P → ForSome o P

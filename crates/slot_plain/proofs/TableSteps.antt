@@ -2,20 +2,19 @@
 use Rattle.std.proofs.Common.{◌≡◌, ◌≢◌, ℕ, ◌+◌, ◌-◌, ◌≤◌, ◌<◌, ◌==◌, Bool, true, false, List, [], ◌∷◌, ◌++◌, Some, None, length, set}
 use Rattle.std.proofs.Common.{slice_get, get_or, map, replicate, take, drop, slice_range, Option, IfSome, Vec, Global, take-take, arith}
 use Rattle.std.proofs.Common.{sym, ◌∙◌, ap, refl, inl, inr, subst}
-use Rattle.std.proofs.lemmas.Bool.{eq-eqb, ne_eqb, eqb-true, cases_eq}
-use Rattle.std.proofs.lemmas.List.{length-set, length-map, length-append}
-use Rattle.std.proofs.lemmas.Option.{slice_get_within, slice_get-map, slice_get_cases}
+use Rattle.std.proofs.lemmas.Bool.{eq-eqb, ne_eqb, eqb-true, cases_lt}
+use Rattle.std.proofs.lemmas.List.{length-set, length-map, length-append, set-get_or}
+use Rattle.std.proofs.lemmas.Option.{slice_get_within, slice_get-map, slice_get_read, get_or_from_slice_get}
 use Rattle.std.specs.Option.{option_map}
 use Rattle.slot_plain.specs.FreePlaces.{free_places, free_from}
-use Rattle.slot_plain.specs.Slots.{Slot, free_slot, taken_slot, pinned, released, filled, bytes_of_slot, HasPieceOf, slot_at, free_slots}
+use Rattle.slot_plain.specs.Slots.{Slot, free_slot, taken_slot, released, filled, bytes_of_slot, HasPieceOf, slot_at, free_slots}
 use Rattle.slot_plain.specs.Slots.{is_free, with_taken}
 use Rattle.slot_plain.specs.Entries.{Table, table_of, entry_slot, slots_of, is_unheld, IsEntry, AreEntries}
 use Rattle.slot_plain.specs.declared.entry.Entry.{Entry}
 use Rattle.slot_plain.specs.declared.entry.FilledPiece.{FilledPiece}
 use Rattle.std.proofs.lemmas.Slice.{between_is}
-use Rattle.slot_plain.proofs.Lists.{slice_get-read, set-same}
 use Rattle.slot_plain.proofs.FreeLists.{length-free_from-le}
-use Rattle.slot_plain.proofs.Tables.{slot_at-entry, slot_at-none, held-has_entry, slots_of-set, slots_of-push, free_slots-slots_of}
+use Rattle.slot_plain.proofs.Tables.{slot_at-entry, slot_at-none, slots_of-set, slots_of-push, free_slots-slots_of}
 use Rattle.slot_plain.proofs.Tables.{length-slots_of, AreEntries-set, AreEntries-push, length-flags, free_flags}
 
 -- the table with another slot at a number
@@ -33,39 +32,35 @@ piece_of : (o : Option FilledPiece) (len count : ℕ) (buffer : Vec ℕ Global)
 piece_of None len count buffer has = absurd has
 piece_of (Some p) len count buffer has = (p, refl, has)
 
-module _ (shmem chunk total : ℕ) (free : List Bool) (entries : List Entry) (are : AreEntries shmem chunk total free entries)
-    (table : Table) (is : table_of shmem chunk total entries ≡ table) where
+module _ {shmem chunk total : ℕ} {free : List Bool} {entries : List Entry} (are : AreEntries shmem chunk total free entries)
+    {table : Table} (is : table_of shmem chunk total entries ≡ table) where
   slots_is : slots_of entries total ≡ table.slots
   slots_is = ap (λ (t : Table). t.slots) is
 
+  -- a slot without an entry is free
+  slot_free : (n : ℕ) → length entries ≤ n → slot_at table.slots n ≡ free_slot
+  slot_free n none = rw (← slots_is) (slot_at-none entries total n none)
+
   -- a slot that is held has an entry
   pub entry_of_held : (n : ℕ) → 0 < (slot_at table.slots n).count → n < length entries
-  entry_of_held n held =
-      let count = ap (λ slots. (slot_at slots n).count) slots_is in
-      let found = held-has_entry entries total n (omega (arith, held, count)) in
-      slice_get_within entries n found.0 found.1
-
-  -- a slot that has a piece is held
-  pub piece_held : (n len : ℕ) → HasPieceOf (slot_at table.slots n) len → 0 < (slot_at table.slots n).count
-  piece_held n len has = elim (slice_get_cases entries n).1 [
-    | inl found ↦
-        let e = found.0 in
-        let here = slot_at-entry entries total n e found.2 in
-        let slot : slot_at table.slots n ≡ entry_slot e = ap (λ slots. slot_at slots n) (sym slots_is) ∙ here in
-        let there = piece_of e.piece len e.count e.buffer (subst (λ (s : Slot). HasPieceOf s len) slot has) in
-        elim (cases_eq e.count 0) [
-          | inl none ↦ let no_piece = (are.each n e found.2).free none in let other = there.1 in cc
-          | inr some ↦ let count = ap (λ (s : Slot). s.count) slot in omega (arith, count, some)
-        ]
-    | inr none ↦
-        let slot : slot_at table.slots n ≡ free_slot =
-        ap (λ slots. slot_at slots n) (sym slots_is) ∙ slot_at-none entries total n none.0 in
-        absurd (subst (λ (s : Slot). HasPieceOf s len) slot has)
+  entry_of_held n held = elim (cases_lt n (length entries)) [
+    | inl within ↦ within
+    | inr none ↦ let count = ap (λ (s : Slot). s.count) (slot_free n none) in absurd (omega (arith, held, count))
   ]
 
-  module _ (n : ℕ) (now : Entry) (within : n < length entries) (read : now ≡ get_or entries n now) where
+  -- so has one that has a piece
+  pub entry_of_piece : (n len : ℕ) → HasPieceOf (slot_at table.slots n) len → n < length entries
+  entry_of_piece n len has = elim (cases_lt n (length entries)) [
+    | inl within ↦ within
+    | inr none ↦ absurd (subst (λ (s : Slot). HasPieceOf s len) (slot_free n none) has)
+  ]
+
+  module _ (n : ℕ) {now : Entry} (within : n < length entries) (read : now ≡ get_or entries n now) where
     entry_at : slice_get entries n ≡ Some now
-    entry_at = slice_get-read entries n now within read
+    entry_at = slice_get_read entries (length entries) n now refl within read
+
+    entry_is : IsEntry shmem chunk n now
+    entry_is = are.each n now entry_at
 
     pub slot_is : slot_at table.slots n ≡ entry_slot now
     slot_is = ap (λ slots. slot_at slots n) (sym slots_is) ∙ slot_at-entry entries total n now entry_at
@@ -75,36 +70,29 @@ module _ (shmem chunk total : ℕ) (free : List Bool) (entries : List Entry) (ar
         ap (λ flags. slice_get flags n) are.flags ∙ slice_get-map is_unheld entries n ∙ ap (option_map is_unheld) entry_at
 
     -- a changed entry, in the table
-    pub changed : (e : Entry) (s : Slot) → entry_slot e ≡ s → table_of shmem chunk total (set entries n e) ≡ with_slot table n s
-    changed e s slot =
+    pub changed : (e : Entry) {s : Slot} → entry_slot e ≡ s → table_of shmem chunk total (set entries n e) ≡ with_slot table n s
+    changed e {s} slot =
         ap (λ m. record { shmem = shmem; chunk = chunk; made = m; slots = slots_of (set entries n e) total }) (length-set entries n e)
         ∙ ap (λ slots. record { shmem = shmem; chunk = chunk; made = length entries; slots = slots })
         (slots_of-set entries total n e within ∙ ap (set (slots_of entries total) n) slot)
         ∙ ap (λ t. with_slot t n s) is
 
-    -- an entry that keeps its buffer, and is held as it was, or more
-    pub kept : (e : Entry) → is_unheld e ≡ is_unheld now → IsEntry shmem chunk n e
+    -- the entry of a slot that is held is changed, and is held
+    held_still : 0 < (slot_at table.slots n).count → {e : Entry} → 0 < e.count → IsEntry shmem chunk n e
         → AreEntries shmem chunk total free (set entries n e)
-    kept e same one = AreEntries-set shmem chunk total free entries are n e within free
-        (sym (ap (set free n) same ∙ set-same free n (is_unheld now) flag_is)) one
-
-    -- ---- a pin
-
-    pub pinned-entries : 0 < (slot_at table.slots n).count
-        → AreEntries shmem chunk total free (set entries n (record { count = now.count + 1; piece = now.piece; buffer = now.buffer }))
-    pinned-entries held =
+    held_still held {e} more one =
         let count = ap (λ (s : Slot). s.count) slot_is in
-        let old = are.each n now entry_at in
         let before : is_unheld now ≡ false = ne_eqb _ _ (λ none. absurd (omega arith)) in
-        let after : (now.count + 1 == 0) ≡ false = ne_eqb _ _ (λ none. absurd (omega arith)) in
-        kept (record { count = now.count + 1; piece = now.piece; buffer = now.buffer }) (after ∙ sym before)
-        (record { buffer = old.buffer; piece = old.piece; free = λ none. absurd (omega arith) })
+        let after : is_unheld e ≡ false = ne_eqb _ _ (λ none. absurd (omega arith)) in
+        AreEntries-set are n e within free
+        (sym (ap (set free n) (after ∙ sym before ∙ sym (get_or_from_slice_get free n (is_unheld now) false flag_is))
+        ∙ set-get_or free n false)) one
 
-    pub pinned-table : table_of shmem chunk total (set entries n (record { count = now.count + 1; piece = now.piece; buffer = now.buffer }))
-        ≡ with_slot table n (pinned (slot_at table.slots n))
-    pinned-table =
-        changed (record { count = now.count + 1; piece = now.piece; buffer = now.buffer }) (pinned (slot_at table.slots n))
-        (ap pinned (sym slot_is))
+    -- it is held more often or less
+    pub counted-entries : 0 < (slot_at table.slots n).count → {k : ℕ} → 0 < k
+        → AreEntries shmem chunk total free (set entries n (record now { count = k }))
+    counted-entries held more =
+        held_still held more (record { buffer = entry_is.buffer; piece = entry_is.piece; free = λ none. absurd (omega arith) })
 
     -- ---- a release
 
@@ -112,197 +100,138 @@ module _ (shmem chunk total : ℕ) (free : List Bool) (entries : List Entry) (ar
     pub held_flag : 0 < (slot_at table.slots n).count → slice_get free n ≡ Some false
     held_flag held =
         let count = ap (λ (s : Slot). s.count) slot_is in
-        let before : is_unheld now ≡ false = ne_eqb _ _ (λ none. absurd (omega arith)) in
-        flag_is ∙ ap Some before
+        flag_is ∙ ap Some (ne_eqb now.count 0 (λ none. absurd (omega arith)))
 
     -- nothing holds it any more
-    module _ (held : 0 < (slot_at table.slots n).count) (last : now.count - 1 ≡ 0) where
-      freed : Entry
-      freed = record { count = now.count - 1; piece = None; buffer = now.buffer }
+    pub freed-entries : (k : ℕ) → k ≡ 0
+        → AreEntries shmem chunk total (set free n true) (set entries n (record now { count = k; piece = None }))
+    freed-entries k last =
+        AreEntries-set are n (record now { count = k; piece = None }) within (set free n true) (ap (set free n) (sym (eq-eqb _ _ last)))
+        (record { buffer = entry_is.buffer; piece = λ p none. cc; free = λ _. refl })
 
-      pub freed-entries : AreEntries shmem chunk total (set free n true) (set entries n (record {
-        count = now.count - 1;
-        piece = None;
-        buffer = now.buffer;
-      }))
-      freed-entries =
-          let old = are.each n now entry_at in
-          let e : Entry = record { count = now.count - 1; piece = None; buffer = now.buffer } in
-          AreEntries-set shmem chunk total free entries are n e within (set free n true) (ap (set free n) (sym (eq-eqb _ _ last)))
-          (record { buffer = old.buffer; piece = λ p none. cc; free = λ _. refl })
-
-      pub freed-table : table_of shmem chunk total (set entries n (record { count = now.count - 1; piece = None; buffer = now.buffer }))
+    module _ (held : 0 < (slot_at table.slots n).count) where
+      pub freed-table : now.count - 1 ≡ 0
+          → table_of shmem chunk total (set entries n (record now { count = now.count - 1; piece = None }))
           ≡ with_slot table n (released (slot_at table.slots n))
-      freed-table =
+      freed-table last =
           let count = ap (λ (s : Slot). s.count) slot_is in
           let one : ((slot_at table.slots n).count == 1) ≡ true = eq-eqb _ _ (omega arith) in
-          changed (record { count = now.count - 1; piece = None; buffer = now.buffer }) (released (slot_at table.slots n))
-          (rw (one, last) refl)
+          changed _ (rw (one, last) refl)
 
-    -- something else holds it
-    module _ (held : 0 < (slot_at table.slots n).count) (more : now.count - 1 ≢ 0) where
-      pub lowered-entries : AreEntries shmem chunk total free (set entries n (record {
-        count = now.count - 1;
-        piece = now.piece;
-        buffer
-            = now.buffer;
-      }))
-      lowered-entries =
-          let old = are.each n now entry_at in
-          let before : is_unheld now ≡ false = ne_eqb _ _ (λ none. absurd (omega arith)) in
-          let after : (now.count - 1 == 0) ≡ false = ne_eqb _ _ more in
-          kept (record { count = now.count - 1; piece = now.piece; buffer = now.buffer }) (after ∙ sym before)
-          (record { buffer = old.buffer; piece = old.piece; free = λ none. absurd (more none) })
-
-      pub lowered-table : table_of shmem chunk total (set entries n (record {
-        count = now.count - 1;
-        piece = now.piece;
-        buffer =
-            now.buffer;
-      }))
+      -- something else holds it
+      pub lowered-table : now.count - 1 ≢ 0
+          → table_of shmem chunk total (set entries n (record now { count = now.count - 1 }))
           ≡ with_slot table n (released (slot_at table.slots n))
-      lowered-table =
+      lowered-table more =
           let count = ap (λ (s : Slot). s.count) slot_is in
           let one : ((slot_at table.slots n).count == 1) ≡ false = ne_eqb _ _ (λ e. more (omega arith)) in
-          changed (record { count = now.count - 1; piece = now.piece; buffer = now.buffer }) (released (slot_at table.slots n))
-          (rw one (rw slot_is refl))
+          changed _ (rw one (rw slot_is refl))
 
     -- ---- a piece
 
     pub buffer_size : n < table.shmem → length now.buffer.items ≡ table.chunk
     buffer_size in_memory =
         let mem = ap (λ (t : Table). t.shmem) is in
-        let bytes = ap (λ (t : Table). t.chunk) is in
-        (are.each n now entry_at).buffer (omega arith) ∙ bytes
+        entry_is.buffer (omega arith) ∙ ap (λ (t : Table). t.chunk) is
 
-    module _ (held : 0 < (slot_at table.slots n).count) (p : FilledPiece) (buffer : Vec ℕ Global) where
-      pub filled-entries : p.len ≤ table.chunk → (n < table.shmem → length buffer.items ≡ table.chunk)
-          → AreEntries shmem chunk total free (set entries n (record { count = now.count; piece = Some p; buffer = buffer }))
-      filled-entries fits size =
+    module _ (p : FilledPiece) (buffer : Vec ℕ Global) where
+      pub filled-entries : 0 < (slot_at table.slots n).count → p.len ≤ table.chunk
+          → (n < table.shmem → length buffer.items ≡ table.chunk)
+          → AreEntries shmem chunk total free (set entries n (record now { piece = Some p; buffer = buffer }))
+      filled-entries held fits size =
           let count = ap (λ (s : Slot). s.count) slot_is in
           let mem = ap (λ (t : Table). t.shmem) is in
           let bytes = ap (λ (t : Table). t.chunk) is in
-          kept (record { count = now.count; piece = Some p; buffer = buffer }) refl
-          (record {
+          held_still held (omega arith) (record {
             buffer = λ lt. size (omega arith) ∙ sym bytes;
             piece = λ q at. let same : p ≡ q = cc in subst (λ (r : FilledPiece). r.len ≤ chunk) same (omega arith);
             free = λ none. absurd (omega arith);
           })
 
-      pub filled-table : (bytes : List ℕ) → take p.len buffer.items ≡ bytes
-          → table_of shmem chunk total (set entries n (record { count = now.count; piece = Some p; buffer = buffer }))
+      pub filled-table : {bytes : List ℕ} → take p.len buffer.items ≡ bytes
+          → table_of shmem chunk total (set entries n (record now { piece = Some p; buffer = buffer }))
           ≡ with_slot table n (filled (record { id = p.id; len = p.len; bytes = Some bytes }) (slot_at table.slots n))
-      filled-table bytes first =
-          changed (record { count = now.count; piece = Some p; buffer = buffer })
-          (filled (record { id = p.id; len = p.len; bytes = Some bytes }) (slot_at table.slots n))
-          (rw (slot_is, first) refl)
+      filled-table first = changed _ (rw (slot_is, first) refl)
 
     -- a piece is read from a slot of shared memory
-    module _ (in_memory : n < table.shmem) (from size : ℕ) (inside : HasPieceOf (slot_at table.slots n) (from + size)) where
+    module _ (from size : ℕ) (inside : HasPieceOf (slot_at table.slots n) (from + size)) where
       read_piece : (p : FilledPiece) × (now.piece ≡ Some p) × (from + size ≤ p.len)
       read_piece = piece_of now.piece (from + size) now.count now.buffer (subst (λ (s : Slot). HasPieceOf s (from + size)) slot_is inside)
 
-      pub read_bound : from + size ≤ length now.buffer.items
-      read_bound =
-          let fits = (are.each n now entry_at).piece read_piece.0 read_piece.1 in
-          let buffer = buffer_size in_memory in
+      pub read_bound : n < table.shmem → from + size ≤ length now.buffer.items
+      read_bound in_memory =
+          let fits = entry_is.piece read_piece.0 read_piece.1 in
           let bytes = ap (λ (t : Table). t.chunk) is in
-          omega (arith, fits, buffer, bytes, read_piece.2)
+          omega (arith, fits, buffer_size in_memory, bytes, read_piece.2)
 
-      pub read_bytes : (out : List ℕ) → out ≡ slice_range now.buffer.items from (from + size)
+      pub read_bytes : {out : List ℕ} → out ≡ slice_range now.buffer.items from (from + size)
           → IfSome (bytes_of_slot (slot_at table.slots n)) (λ bytes. out ≡ slice_range bytes from (from + size))
-      read_bytes out is =
-          subst (λ (s : Slot). IfSome (bytes_of_slot s) (λ bytes. out ≡ slice_range bytes from (from + size))) (sym slot_is)
-          (subst (λ (o : Option FilledPiece). IfSome (bytes_of_slot (entry_slot (record { count = now.count; piece = o; buffer = now.buffer })))
-          (λ bytes. out ≡ slice_range bytes from (from + size))) (sym read_piece.1)
-          (is ∙ sym (slice_range-take read_piece.0.len now.buffer.items from (from + size) read_piece.2)))
+      read_bytes is =
+          rw (slot_is, read_piece.1) (is ∙ sym (slice_range-take read_piece.0.len now.buffer.items from (from + size) read_piece.2))
 
     -- ---- the lowest free slot is taken
 
-    module _ (free_again : List Bool) (unheld : slice_get free n ≡ Some true) (taken : free_again ≡ set free n false) where
-      none_holds : now.count ≡ 0
-      none_holds = let same = sym flag_is ∙ unheld in let set_flag : is_unheld now ≡ true = cc in eqb-true _ _ set_flag
-
-      no_piece : now.piece ≡ None
-      no_piece = (are.each n now entry_at).free none_holds
-
-      pub taken-entries : AreEntries shmem chunk total free_again (set entries n (record {
-        count = 1;
-        piece = now.piece;
-        buffer =
-            now.buffer;
-      }))
+    module _ {free_again : List Bool} (unheld : slice_get free n ≡ Some true) (taken : free_again ≡ set free n false) where
+      pub taken-entries : AreEntries shmem chunk total free_again (set entries n (record now { count = 1 }))
       taken-entries =
-          let old = are.each n now entry_at in
-          let e : Entry = record { count = 1; piece = now.piece; buffer = now.buffer } in
-          AreEntries-set shmem chunk total free entries are n e within free_again taken
-          (record { buffer = old.buffer; piece = old.piece; free = λ none. absurd (omega arith) })
+          AreEntries-set are n (record now { count = 1 }) within free_again taken
+          (record { buffer = entry_is.buffer; piece = entry_is.piece; free = λ none. absurd (omega arith) })
 
-      pub taken-table : table_of shmem chunk total (set entries n (record { count = 1; piece = now.piece; buffer = now.buffer }))
-          ≡ with_slot table n taken_slot
+      pub taken-table : table_of shmem chunk total (set entries n (record now { count = 1 })) ≡ with_slot table n taken_slot
       taken-table =
-          changed (record { count = 1; piece = now.piece; buffer = now.buffer }) taken_slot (rw no_piece refl)
+          let same = sym flag_is ∙ unheld in
+          let set_flag : is_unheld now ≡ true = cc in
+          changed _ (rw (entry_is.free (eqb-true _ _ set_flag)) refl)
 
       pub taken-lowest : free_places free ≡ n ∷ free_places free_again
-          → free_slots table.slots
-          ≡ n ∷ free_slots (slots_of (set entries n (record { count = 1; piece = now.piece; buffer = now.buffer })) total)
+          → free_slots table.slots ≡ n ∷ free_slots (slots_of (set entries n (record now { count = 1 })) total)
       taken-lowest lowest =
-          let e : Entry = record { count = 1; piece = now.piece; buffer = now.buffer } in
-          let after = taken-entries in
-          let size = length-set entries n e in
+          let e : Entry = record now { count = 1 } in
+          let rest = replicate (total - length entries) true in
+          let before : List ℕ → List ℕ = λ xs. xs ++ free_from (length entries) rest in
           ap free_slots (sym slots_is) ∙ free_slots-slots_of entries total
-          ∙ ap (λ flags. free_places flags ++ free_from (length entries) (replicate (total - length entries) true)) (sym are.flags)
-          ∙ ap (λ xs. xs ++ free_from (length entries) (replicate (total - length entries) true)) lowest
-          ∙ ap (λ xs. n ∷ xs)
-          (ap (λ flags. free_places flags ++ free_from (length entries) (replicate (total - length entries) true)) after.flags
-          ∙ ap (λ m. free_places (map is_unheld (set entries n e)) ++ free_from m (replicate (total - m) true)) (sym size)
-          ∙ sym (free_slots-slots_of (set entries n e) total))
+          ∙ ap before (ap free_places (sym are.flags) ∙ lowest)
+          ∙ ap (λ flags. n ∷ before (free_places flags)) taken-entries.flags
+          ∙ ap (λ m. n ∷ free_places (map is_unheld (set entries n e)) ++ free_from m (replicate (total - m) true))
+          (sym (length-set entries n e))
+          ∙ ap (λ xs. n ∷ xs) (sym (free_slots-slots_of (set entries n e) total))
 
   -- where a slot with an entry is free, its flag is set
   pub some_flag : length table.slots < table.made + length (free_slots table.slots) → 0 < length (free_places free)
   some_flag some =
-      let few = are.few in
-      let flags = free_flags shmem chunk total free entries are in
+      let flags = free_flags are in
       let slots = ap (λ (t : Table). length t.slots) is in
       let unheld = ap (λ (t : Table). length (free_slots t.slots)) is in
       let made = ap (λ (t : Table). t.made) is in
-      omega (arith, flags, slots, unheld, made, length-slots_of entries total few)
+      omega (arith, flags, slots, unheld, made, length-slots_of entries total are.few)
 
   -- ---- one more entry
 
-  module _ (e : Entry) (more : table.made < length table.slots) (count : e.count ≡ 0) (piece : e.piece ≡ None)
-      (buffer : length entries < shmem → length e.buffer.items ≡ chunk) where
+  module _ (e : Entry) (more : table.made < length table.slots) (count : e.count ≡ 0) (piece : e.piece ≡ None) where
     room : length entries < total
     room =
-        let few = are.few in
         let slots = ap (λ (t : Table). length t.slots) is in
         let made = ap (λ (t : Table). t.made) is in
-        omega (arith, slots, made, length-slots_of entries total few)
+        omega (arith, slots, made, length-slots_of entries total are.few)
 
-    pub made-entries : AreEntries shmem chunk total (free ++ true ∷ []) (entries ++ e ∷ [])
-    made-entries =
-        AreEntries-push shmem chunk total free entries are e room count
+    pub made-entries : (length entries < shmem → length e.buffer.items ≡ chunk)
+        → AreEntries shmem chunk total (free ++ true ∷ []) (entries ++ e ∷ [])
+    made-entries buffer =
+        AreEntries-push are e room count
         (record { buffer = buffer; piece = λ p is. cc; free = λ _. piece })
 
-    pub made-table : (made : ℕ) → length (entries ++ e ∷ []) ≡ made
-        → table_of shmem chunk total (entries ++ e ∷ []) ≡ record {
-          shmem = table.shmem;
-          chunk = table.chunk;
-          made = made;
-          slots =
-              table.slots;
-        }
-    made-table made size =
+    pub made-table : {made : ℕ} → length (entries ++ e ∷ []) ≡ made
+        → table_of shmem chunk total (entries ++ e ∷ []) ≡ record table { made = made }
+    made-table {made} size =
         let free_one : entry_slot e ≡ free_slot = rw (count, piece) refl in
         ap (λ m. record { shmem = shmem; chunk = chunk; made = m; slots = slots_of (entries ++ e ∷ []) total }) size
         ∙ ap (λ slots. record { shmem = shmem; chunk = chunk; made = made; slots = slots }) (slots_of-push entries total e room free_one)
-        ∙ ap (λ (t : Table). record { shmem = t.shmem; chunk = t.chunk; made = made; slots = t.slots }) is
+        ∙ ap (λ (t : Table). record t { made = made }) is
 
 -- a slot with a flag has an entry
-pub flag_within : (shmem chunk total : ℕ) (free : List Bool) (entries : List Entry) → AreEntries shmem chunk total free entries
-    → (n : ℕ) (b : Bool) → slice_get free n ≡ Some b → n < length entries
-flag_within shmem chunk total free entries are n b at =
-    let within = slice_get_within free n b at in omega (arith, within, length-flags shmem chunk total free entries are)
+pub flag_within : {shmem chunk total : ℕ} {free : List Bool} {entries : List Entry} → AreEntries shmem chunk total free entries
+    → (n : ℕ) {b : Bool} → slice_get free n ≡ Some b → n < length entries
+flag_within {free = free} are n {b} at = omega (arith, slice_get_within free n b at, length-flags are)
 
 -- ---- lists of slots
 

@@ -1,35 +1,37 @@
 -- Slots of entries: what a change of an entry is to the slots.
-use Rattle.std.proofs.Common.{◌≡◌, ℕ, suc, zero, ◌+◌, ◌-◌, ◌≤◌, ◌<◌, Bool, true, false, List, [], ◌∷◌, ◌++◌, Some, length, set}
-use Rattle.std.proofs.Common.{slice_get, map, replicate, arith}
-use Rattle.std.proofs.Common.{sym, ◌∙◌, ap, refl, inl, inr, subst, count_by, if◌then◌else◌}
+use Rattle.std.proofs.Common.{◌≡◌, ℕ, suc, zero, ◌+◌, ◌-◌, ◌≤◌, ◌<◌, Bool, true, false, List, [], ◌∷◌, ◌++◌, Some, length, set, slice_get}
+use Rattle.std.proofs.Common.{map, replicate, arith, sym, ◌∙◌, ap, refl, ◌⊎◌, inl, inr, subst, count_by, if◌then◌else◌}
 use Rattle.std.proofs.lemmas.Bool.{cases_lt, cases_eq, eq-eqb, ne_eqb, lt-ltb, le-ltb}
 use Rattle.std.proofs.lemmas.List.Sums.{sum_by-append, sum_by-cons}
 use Rattle.std.proofs.lemmas.List.{length-set, length-append, length-map, length-replicate, map-set, map-append, set-append_left}
 use Rattle.std.proofs.lemmas.List.{get_or_append_left, get_or-append_right, get_or_past, get_or-replicate, get_or-map, append_assoc}
 use Rattle.std.proofs.lemmas.List.{length_push, map_push}
-use Rattle.std.proofs.lemmas.Option.{slice_get_within, get_or_from_slice_get, slice_get_cases}
+use Rattle.std.proofs.lemmas.Option.{slice_get_within, get_or_from_slice_get}
 use Rattle.slot_plain.specs.FreePlaces.{free_from, free_places}
-use Rattle.slot_plain.specs.Slots.{Slot, free_slot, is_free, is_held, slot_at, free_slots, held_count}
+use Rattle.slot_plain.specs.Slots.{free_slot, is_free, is_held, slot_at, free_slots, held_count}
 use Rattle.slot_plain.specs.Entries.{entry_slot, slots_of, is_unheld, IsEntry, AreEntries}
 use Rattle.slot_plain.specs.declared.entry.Entry.{Entry}
-use Rattle.slot_plain.proofs.Lists.{slice_get-set_same, slice_get-set_other, slice_get-push}
-use Rattle.slot_plain.proofs.FreeLists.{length-free_from-le}
+use Rattle.fs_script.proofs.CallerLemmas.{slice_get-set_same, slice_get-set_other}
+use Rattle.slot_plain.proofs.FreeLists.{free_from-append, length-free_from-le}
 
--- ---- flags one after another
+-- ---- lists
 
-free_from-append : (n : ℕ) (xs ys : List Bool) → free_from n (xs ++ ys) ≡ free_from n xs ++ free_from (n + length xs) ys
-free_from-append n [] ys = ap (λ m. free_from m ys) (omega arith)
-free_from-append n (true ∷ xs) ys =
-    ap (λ rest. n ∷ rest) (free_from-append (suc n) xs ys
-    ∙ ap (λ m. free_from (suc n) xs ++ free_from m ys) (omega arith))
-free_from-append n (false ∷ xs) ys =
-    free_from-append (suc n) xs ys ∙ ap (λ m. free_from (suc n) xs ++ free_from m ys) (omega arith)
+-- an element of a list that has one more at its end
+slice_get-push : {X : Type 0} (xs : List X) (y : X) (i : ℕ) (x : X) → slice_get (xs ++ y ∷ []) i ≡ Some x
+    → (slice_get xs i ≡ Some x) ⊎ ((i ≡ length xs) × (y ≡ x))
+slice_get-push [] y zero x at = inr (refl, cc)
+slice_get-push [] y (suc i) x at = cc
+slice_get-push (z ∷ xs) y zero x at = inl at
+slice_get-push (z ∷ xs) y (suc i) x at = elim (slice_get-push xs y i x at) [
+  | inl was ↦ inl was
+  | inr more ↦ inr (ap suc more.0, more.1)
+]
+
+-- ---- the slots of entries
 
 length-free_from-replicate : (n k : ℕ) → length (free_from n (replicate k true)) ≡ k
 length-free_from-replicate n zero = refl
 length-free_from-replicate n (suc k) = ap suc (length-free_from-replicate (suc n) k)
-
--- ---- the slots of entries
 
 flags_of_entries : (entries : List Entry) → map is_free (map entry_slot entries) ≡ map is_unheld entries
 flags_of_entries [] = refl
@@ -91,65 +93,46 @@ module _ (entries : List Entry) (total : ℕ) where
             (omega (arith, le, length-replicate (total - length entries) free_slot))
       ]
 
-  -- a slot that is held has an entry
-  pub held-has_entry : (n : ℕ) → 0 < (slot_at (slots_of entries total) n).count
-      → (e : Entry) × (slice_get entries n ≡ Some e) × (e.count ≡ (slot_at (slots_of entries total) n).count)
-  held-has_entry n held = elim (cases_lt n (length entries)) [
-    | inr past ↦ let c = ap (λ (s : Slot). s.count) (slot_at-none n past) in absurd (omega (arith, held, c))
-    | inl within ↦ elim (slice_get_cases entries n).1 [
-      | inl found ↦ (found.0, found.2, sym (ap (λ (s : Slot). s.count) (slot_at-entry n found.0 found.2)))
-      | inr none ↦ absurd (omega (arith, none.0))
-    ]
-  ]
-
   -- an entry that is changed
   pub slots_of-set : (n : ℕ) (e : Entry) → n < length entries
       → slots_of (set entries n e) total ≡ set (slots_of entries total) n (entry_slot e)
   slots_of-set n e within =
       let there : n < length (map entry_slot entries) = omega (arith, within, length-map entries entry_slot) in
-      ap (λ xs. xs ++ replicate (total - length (set entries n e)) free_slot) (map-set entry_slot entries n e)
-      ∙ ap (λ m. set (map entry_slot entries) n (entry_slot e) ++ replicate (total - m) free_slot) (length-set entries n e)
-      ∙ sym (set-append_left (map entry_slot entries) (replicate (total - length entries) free_slot) n (entry_slot e) there)
+      rw (map-set entry_slot entries n e, length-set entries n e)
+      (sym (set-append_left (map entry_slot entries) (replicate (total - length entries) free_slot) n (entry_slot e) there))
 
   -- an entry of a free slot that is added
   pub slots_of-push : (e : Entry) → length entries < total → entry_slot e ≡ free_slot
       → slots_of (entries ++ e ∷ []) total ≡ slots_of entries total
   slots_of-push e more free =
-      let size = length_push entries e in
-      let rest : replicate (total - length entries) free_slot ≡ free_slot ∷ replicate (total - (length entries + 1)) free_slot =
-      ap (λ m. replicate m free_slot) (let h : total - length entries ≡ suc (total - (length entries + 1)) = omega arith in h) in
-      ap (λ m. map entry_slot (entries ++ e ∷ []) ++ replicate (total - m) free_slot) size
-      ∙ ap (λ xs. xs ++ replicate (total - (length entries + 1)) free_slot) (map_push entry_slot entries e)
-      ∙ append_assoc (map entry_slot entries) (entry_slot e ∷ []) (replicate (total - (length entries + 1)) free_slot)
-      ∙ ap (λ s. map entry_slot entries ++ s ∷ replicate (total - (length entries + 1)) free_slot) free
-      ∙ ap (λ xs. map entry_slot entries ++ xs) (sym rest)
+      let one_less : total - length entries ≡ suc (total - (length entries + 1)) = omega arith in
+      rw (length_push entries e, map_push entry_slot entries e, free, one_less)
+      (append_assoc (map entry_slot entries) (free_slot ∷ []) (replicate (total - (length entries + 1)) free_slot))
 
   -- the flags of all slots
   flags_of_slots : map is_free (slots_of entries total) ≡ map is_unheld entries ++ replicate (total - length entries) true
   flags_of_slots =
-      map-append is_free (map entry_slot entries) (replicate (total - length entries) free_slot)
-      ∙ ap (λ xs. xs ++ map is_free (replicate (total - length entries) free_slot)) (flags_of_entries entries)
-      ∙ ap (λ xs. map is_unheld entries ++ xs) (flags_of_free (total - length entries))
+      rw (map-append is_free (map entry_slot entries) (replicate (total - length entries) free_slot), flags_of_entries entries)
+      (ap (λ xs. map is_unheld entries ++ xs) (flags_of_free (total - length entries)))
 
   -- the slots that are free: those of entries, and then those that have none
   pub free_slots-slots_of : free_slots (slots_of entries total)
       ≡ free_places (map is_unheld entries) ++ free_from (length entries) (replicate (total - length entries) true)
   free_slots-slots_of =
-      ap free_places flags_of_slots
-      ∙ free_from-append 0 (map is_unheld entries) (replicate (total - length entries) true)
-      ∙ ap (λ m. free_places (map is_unheld entries) ++ free_from m (replicate (total - length entries) true))
-      (omega (arith, length-map entries is_unheld))
+      rw flags_of_slots
+      (free_from-append 0 (length entries) (map is_unheld entries) (replicate (total - length entries) true)
+      (omega (arith, length-map entries is_unheld)))
 
   -- how many slots are free
   pub length-free_slots : length (free_slots (slots_of entries total))
       ≡ length (free_places (map is_unheld entries)) + (total - length entries)
   length-free_slots =
-      ap (λ flags. length (free_places flags)) flags_of_slots
-      ∙ ap length (free_from-append 0 (map is_unheld entries) (replicate (total - length entries) true))
-      ∙ length-append (free_places (map is_unheld entries)) (free_from (0 + length (map is_unheld entries)) (replicate (total - length
-      entries) true))
-      ∙ ap (λ m. length (free_places (map is_unheld entries)) + m)
-      (length-free_from-replicate (0 + length (map is_unheld entries)) (total - length entries))
+      let rest = free_from (length entries) (replicate (total - length entries) true) in
+      rw free_slots-slots_of (omega (
+        arith,
+        length-append (free_places (map is_unheld entries)) rest,
+        length-free_from-replicate (length entries) (total - length entries),
+      ))
 
   -- how many slots are held
   pub held_count-slots_of : held_count (slots_of entries total) + length (free_places (map is_unheld entries)) ≡ length entries
@@ -161,7 +144,7 @@ module _ (entries : List Entry) (total : ℕ) where
 
 -- ---- the same of entries with their flags
 
-module _ (shmem chunk total : ℕ) (free : List Bool) (entries : List Entry) (are : AreEntries shmem chunk total free entries) where
+module _ {shmem chunk total : ℕ} {free : List Bool} {entries : List Entry} (are : AreEntries shmem chunk total free entries) where
   pub length-flags : length free ≡ length entries
   length-flags = ap length are.flags ∙ length-map entries is_unheld
 
@@ -192,7 +175,7 @@ module _ (shmem chunk total : ℕ) (free : List Bool) (entries : List Entry) (ar
         | inl same ↦
             let here = sym at ∙ ap (slice_get (set entries n e)) same ∙ slice_get-set_same entries n e within in
             let is_e : e ≡ x = cc in
-            rw same (subst (IsEntry shmem chunk n) is_e one)
+            rw (same, ← is_e) one
         | inr other ↦ are.each m x (sym (slice_get-set_other entries n m e other) ∙ at)
       ];
     }

@@ -1,10 +1,10 @@
 -- Slots that were taken: as many as were wanted, each held once, and the others as they were.
 use Rattle.std.proofs.Common.{◌≡◌, ℕ, suc, zero, ◌+◌, ◌≤◌, ◌<◌, Bool, true, false, All, Contains, List, [], ◌∷◌, length, get_or, take}
 use Rattle.std.proofs.Common.{map, set, arith, sym, ◌∙◌, ap, refl, inl, inr, subst}
-use Rattle.std.proofs.lemmas.List.{length-take, length-map, length-set}
+use Rattle.std.proofs.lemmas.List.{length-take, length-map, length-set, get_or-set_same}
 use Rattle.std.proofs.lemmas.List.Elements.{All-take}
 use Rattle.slot_plain.specs.FreePlaces.{free_from}
-use Rattle.slot_plain.specs.Slots.{Slot, taken_slot, is_free, slot_at, free_slots, with_taken}
+use Rattle.slot_plain.specs.Slots.{Slot, free_slot, taken_slot, is_free, slot_at, free_slots, with_taken}
 use Rattle.slot_plain.proofs.Logs.{slot_at-set}
 
 -- what is free is one of the places
@@ -27,16 +27,11 @@ with_taken-keeps (n ∷ numbers) slots m is = with_taken-keeps numbers (set slot
   | inr other ↦ other ∙ is
 ])
 
-slot_at-set_same : (slots : List Slot) (n : ℕ) (s : Slot) → n < length slots → slot_at (set slots n s) n ≡ s
-slot_at-set_same [] n s lt = absurd (omega arith)
-slot_at-set_same (x ∷ slots) zero s lt = refl
-slot_at-set_same (x ∷ slots) (suc n) s lt = slot_at-set_same slots n s (omega arith)
-
 with_taken-each : (numbers : List ℕ) (slots : List Slot) (k d : ℕ) → All (λ m. m < length slots) numbers → k < length numbers
     → slot_at (with_taken numbers slots) (get_or numbers k d) ≡ taken_slot
 with_taken-each [] slots k d within lt = absurd (omega arith)
 with_taken-each (n ∷ numbers) slots zero d within lt =
-    with_taken-keeps numbers (set slots n taken_slot) n (slot_at-set_same slots n taken_slot (within 0 n (omega arith)))
+    with_taken-keeps numbers (set slots n taken_slot) n (get_or-set_same slots n taken_slot free_slot (within 0 n (omega arith)))
 with_taken-each (n ∷ numbers) slots (suc k) d within lt =
     with_taken-each numbers (set slots n taken_slot) k d
     (λ i e less. let h = within (suc i) e (omega arith) in omega (arith, h, length-set slots n taken_slot)) (omega arith)

@@ -53,6 +53,7 @@ impl FreeSlots {
 
     /// Adds a slot that is free, behind the others. Room is made twice as much where there is none,
     /// so it takes memory for few calls.
+    #[tactic(auto, using(crate::proofs::FreeTrees::widen_laws))]
     pub fn add(&mut self, alloc: Global) -> Result<(), Want>
         requires { length self.old < NO_SLOT }
         ensures ok { OnOk result (self.new ≡ self.old ++ true ∷ []) }
@@ -66,6 +67,7 @@ impl FreeSlots {
     }
 
     /// Takes the lowest slot that is free. It takes no memory.
+    #[tactic(auto, using(crate::proofs::FreeTrees::take_laws))]
     pub fn take_lowest(&mut self) -> u32
         requires { 0 < length (free_places self.old) }
         ensures lowest { free_places self.old ≡ result ∷ free_places self.new }
@@ -79,6 +81,7 @@ impl FreeSlots {
     }
 
     /// Makes a slot free that was taken. It takes no memory.
+    #[tactic(auto, using(crate::proofs::FreeTrees::put_back_laws))]
     pub fn put_back(&mut self, slot: u32)
         requires { slice_get self.old slot ≡ Some false }
         ensures { self.new ≡ slice_set self.old slot true }

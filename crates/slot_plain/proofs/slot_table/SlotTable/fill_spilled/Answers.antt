@@ -4,31 +4,16 @@ use Rattle.slot_plain.proofs.slot_table.SlotTable.fill_spilled.Goals as goal
 
 pub invariant_of-self : goal.invariant_of-self
 invariant_of-self c =
-    let i = c.self.inside in
-    filled-entries i.shmem i.chunk i.total i.free i.entries.items c.self.invariant c.args.self.now c.self.view_is c.args.slot
-    c.index_mut-entry.result.now
-    (entry_of_held i.shmem i.chunk i.total i.free i.entries.items c.self.invariant c.args.self.now c.self.view_is c.args.slot
-    c.requires.taken)
-    c.index_mut-entry.ensures.value c.requires.taken (record { id = c.args.id; len = length c.args.b.now })
-    c.index_mut-entry.result.now.buffer
-    c.requires.fits (buffer_size i.shmem i.chunk i.total i.free i.entries.items c.self.invariant c.args.self.now c.self.view_is
-    c.args.slot c.index_mut-entry.result.now
-    (entry_of_held i.shmem i.chunk i.total i.free i.entries.items c.self.invariant c.args.self.now c.self.view_is c.args.slot
-    c.requires.taken)
-    c.index_mut-entry.ensures.value)
+    let within = entry_of_held c.self.invariant c.self.view_is c.args.slot c.requires.taken in
+    filled-entries c.self.invariant c.self.view_is c.args.slot within c.index_mut-entry.ensures.value _ _ c.requires.taken c.requires.fits
+    (buffer_size c.self.invariant c.self.view_is c.args.slot within c.index_mut-entry.ensures.value)
 
 pub returns : goal.returns
 returns c =
-    let i = c.self.inside in
+    let within = entry_of_held c.self.invariant c.self.view_is c.args.slot c.requires.taken in
     record {
       filled = (
         take (length c.args.b.now) c.index_mut-entry.result.now.buffer.items,
-        filled-table i.shmem i.chunk i.total i.free i.entries.items c.self.invariant c.args.self.now c.self.view_is c.args.slot
-            c.index_mut-entry.result.now
-            (entry_of_held i.shmem i.chunk i.total i.free i.entries.items c.self.invariant c.args.self.now c.self.view_is c.args.slot
-            c.requires.taken)
-            c.index_mut-entry.ensures.value c.requires.taken (record { id = c.args.id; len = length c.args.b.now })
-            c.index_mut-entry.result.now.buffer
-            (take (length c.args.b.now) c.index_mut-entry.result.now.buffer.items) refl,
+        filled-table c.self.invariant c.self.view_is c.args.slot within c.index_mut-entry.ensures.value _ _ refl,
       );
     }

@@ -1,18 +1,15 @@
-use Rattle.slot_plain.proofs.TableSteps.{entry_of_held, pinned-entries, pinned-table}
+use Rattle.std.proofs.Common.{ap, sym, arith}
+use Rattle.slot_plain.specs.Slots.{pinned}
+use Rattle.slot_plain.proofs.TableSteps.{entry_of_held, slot_is, counted-entries, changed}
 use Rattle.slot_plain.proofs.slot_table.SlotTable.pin.Goals as goal
 
 pub invariant_of-self : goal.invariant_of-self
 invariant_of-self c =
-    let i = c.self.inside in
-    pinned-entries i.shmem i.chunk i.total i.free i.entries.items c.self.invariant c.args.self.now c.self.view_is c.args.slot
-    c.index_mut.result.now
-    (entry_of_held i.shmem i.chunk i.total i.free i.entries.items c.self.invariant c.args.self.now c.self.view_is c.args.slot
-    c.requires.held) c.index_mut.ensures.value c.requires.held
+    counted-entries c.self.invariant c.self.view_is c.args.slot (entry_of_held c.self.invariant c.self.view_is c.args.slot c.requires.held)
+    c.index_mut.ensures.value c.requires.held (omega arith)
 
 pub returns : goal.returns
 returns c =
-    let i = c.self.inside in
-    pinned-table i.shmem i.chunk i.total i.free i.entries.items c.self.invariant c.args.self.now c.self.view_is c.args.slot
-    c.index_mut.result.now
-    (entry_of_held i.shmem i.chunk i.total i.free i.entries.items c.self.invariant c.args.self.now c.self.view_is c.args.slot
-    c.requires.held) c.index_mut.ensures.value
+    let within = entry_of_held c.self.invariant c.self.view_is c.args.slot c.requires.held in
+    changed c.self.invariant c.self.view_is c.args.slot within c.index_mut.ensures.value _
+    (ap pinned (sym (slot_is c.self.invariant c.self.view_is c.args.slot within c.index_mut.ensures.value)))
