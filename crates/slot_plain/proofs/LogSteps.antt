@@ -265,7 +265,8 @@ module _ {t : Table} {device : DeviceState} (backs : Backs t device) where
           pub read_written : WasWritten at size device.cells
           read_written =
               let p = the_piece in
-              rw place (WasWritten-part (spill_place t.shmem t.chunk n) p.0.len from size device.cells p.2 (backs.written n p.0 spilled p.1))
+              rw place (WasWritten-part (spill_place t.shmem t.chunk n) p.0.len from size device.cells p.2
+              (backs.written n p.0 spilled p.1))
 
           pub read_given : (out : List ℕ) → length out ≡ size → HoldsAt at out device.cells
               → IfSome (bytes_of_slot (slot_at log.slots n)) (λ bytes. out ≡ slice_range bytes from (from + size))
