@@ -144,14 +144,14 @@ module _ {nodes : List ℕ} {room len total : ℕ} (keeps : KeepsFree nodes room
       (leaf : LeafSet slot value room nodes new) where
     -- a leaf that a slot has is set to its number, or to that of no slot
     module _ {b b' : Bool} (had : slice_get flags slot ≡ Some b) (own : (value == slot) ≡ b') where
-      lt : slot < len
-      lt = slot_below slot had
+      below_len : slot < len
+      below_len = slot_below slot had
 
       flags-set : flags_in new after len ≡ set flags slot b'
       flags-set = rw same (flags_in-by new room len (set flags slot b') (length-set flags slot b' ∙ flags_size)
           (λ s below. elim (cases_eq s slot) [
             | inl is_slot ↦
-                let there : slot < length flags = omega (arith, flags_size, lt) in
+                let there : slot < length flags = omega (arith, flags_size, below_len) in
                 rw (is_slot, get_or-set_same flags slot b' false there, leaf.this) (sym own)
             | inr other ↦
                 let w = keeps.within in
@@ -172,7 +172,7 @@ module _ {nodes : List ℕ} {room len total : ℕ} (keeps : KeepsFree nodes room
           | inr apart ↦
               let here = leaf.others s (omega arith) apart in here ∙ keeps.leaves s below (λ own. other (here ∙ own))
         ];
-        none = λ s past in_room. leaf.others s in_room (λ is_slot. absurd (omega (arith, lt))) ∙ keeps.none s past in_room;
+        none = λ s past in_room. leaf.others s in_room (λ is_slot. absurd (omega (arith, below_len))) ∙ keeps.none s past in_room;
         count = count ∙ ap (λ xs. length (free_places xs)) (sym flags-set ∙ ap (λ r. flags_in new r len) same);
       })
 
@@ -195,21 +195,21 @@ module _ {nodes : List ℕ} {room len total : ℕ} (keeps : KeepsFree nodes room
         let numbers = keeps.numbers in
         let below = slot_below slot (lowest_free slot low some) in ne_eqb NO_SLOT slot (λ e. absurd (omega arith))
 
-    first : free_places flags ≡ slot ∷ free_places (set flags slot false)
-    first =
+    lowest_first : free_places flags ≡ slot ∷ free_places (set flags slot false)
+    lowest_first =
         let least = IsLowest-root slot low some in
         free_from-lowest 0 flags slot least.free least.below
         ∙ ap (λ m. m ∷ free_places (set flags slot false)) (omega arith)
 
     pub taken-keeps : KeepsFree new after len (total - 1)
     taken-keeps =
-        keeps-set same tree leaf (lowest_free slot low some) no_number (λ _. refl) (omega (arith, total_is, ap length first))
+        keeps-set same tree leaf (lowest_free slot low some) no_number (λ _. refl) (omega (arith, total_is, ap length lowest_first))
 
     pub taken-flags : flags_in new after len ≡ set flags slot false
     taken-flags = flags-set same tree leaf (lowest_free slot low some) no_number
 
     pub taken-lowest : free_places flags ≡ slot ∷ free_places (flags_in new after len)
-    taken-lowest = rw taken-flags first
+    taken-lowest = rw taken-flags lowest_first
 
   -- a slot is added behind the others
   module _ {new : List ℕ} {after : ℕ} (same : after ≡ room) (fits : len < room) (small : length flags < NO_SLOT)

@@ -253,25 +253,26 @@ module _ {t : Table} {device : DeviceState} (backs : Backs t device) where
 
         -- from the device
         module _ (no : in_memory ≡ false) {at : ℕ} (place : at ≡ spill_place t.shmem t.chunk n + from) where
-          le : t.shmem ≤ n
-          le = ltb-false n t.shmem (sym test ∙ no)
+          spilled : t.shmem ≤ n
+          spilled = ltb-false n t.shmem (sym test ∙ no)
 
           pub read_inside : at + size ≤ device.size
           read_inside =
               let p = the_piece in
-              let within = place_within t device n p.0.len backs (piece-within t.slots n p.0 p.1) le (backs.fits n p.0 p.1) in
+              let within = place_within t device n p.0.len backs (piece-within t.slots n p.0 p.1) spilled (backs.fits n p.0 p.1) in
               omega (arith, within, p.2, place)
 
           pub read_written : WasWritten at size device.cells
           read_written =
               let p = the_piece in
-              rw place (WasWritten-part (spill_place t.shmem t.chunk n) p.0.len from size device.cells p.2 (backs.written n p.0 le p.1))
+              rw place (WasWritten-part (spill_place t.shmem t.chunk n) p.0.len from size device.cells p.2
+              (backs.written n p.0 spilled p.1))
 
           pub read_given : (out : List ℕ) → length out ≡ size → HoldsAt at out device.cells
               → IfSome (bytes_of_slot (slot_at log.slots n)) (λ bytes. out ≡ slice_range bytes from (from + size))
           read_given out whole holds =
               let p = the_piece in
-              rw (slot_is n, p.1, told-spilled t.shmem t.chunk device.cells n p.0 le)
+              rw (slot_is n, p.1, told-spilled t.shmem t.chunk device.cells n p.0 spilled)
               (subst (λ (m : ℕ). IfSome (bytes_from (spill_place t.shmem t.chunk n) p.0.len device.cells)
               (λ bytes. out ≡ slice_range bytes from (from + m))) whole
               (HoldsAt-part (spill_place t.shmem t.chunk n) p.0.len from out device.cells (omega (arith, p.2, whole))
