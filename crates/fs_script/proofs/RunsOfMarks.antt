@@ -5,15 +5,16 @@ use Rattle.fs_types.proofs.Common.{eqb-true}
 use Rattle.fs_types.specs.Fragments.{piece_eq, end_of}
 use Rattle.fs_types.specs.Marks.{Mark}
 use Rattle.fs_types.specs.Pieces.{Fragment}
-use Rattle.fs_script.specs.Runs.{byte_run, goes_on, with_run, runs_from, runs, mark_within, mark_in_runs, AreMaximal}
+use Rattle.fs_types.specs.FragmentMarks.{mark_at, mark_within}
+use Rattle.fs_script.specs.Runs.{byte_run, goes_on, with_run, runs_from, runs, AreMaximal}
 use Rattle.fs_script.proofs.PiecesOnce.{same_piece}
 
 -- ---- the first run
 
-first_within : (f : Fragment) (fs : List Fragment) (k : ℕ) → f.at ≤ k → k < end_of f → mark_in_runs (f ∷ fs) k ≡ Some (mark_within f k)
+first_within : (f : Fragment) (fs : List Fragment) (k : ℕ) → f.at ≤ k → k < end_of f → mark_at (f ∷ fs) k ≡ Some (mark_within f k)
 first_within f fs k from to = grind (arith, nat_tests)
 
-first_outside : (f : Fragment) (fs : List Fragment) (k : ℕ) → (k < f.at) ⊎ (end_of f ≤ k) → mark_in_runs (f ∷ fs) k ≡ mark_in_runs fs k
+first_outside : (f : Fragment) (fs : List Fragment) (k : ℕ) → (k < f.at) ⊎ (end_of f ≤ k) → mark_at (f ∷ fs) k ≡ mark_at fs k
 first_outside f fs k (inl before) = grind (arith, nat_tests)
 first_outside f fs k (inr past) = grind (arith, nat_tests)
 
@@ -46,14 +47,14 @@ same_mark f g k on past =
 -- ---- a run before others
 
 with_run-within : (f : Fragment) (gs : List Fragment) (k : ℕ) → f.at ≤ k → k < end_of f
-    → mark_in_runs (with_run f gs) k ≡ Some (mark_within f k)
+    → mark_at (with_run f gs) k ≡ Some (mark_within f k)
 with_run-within f [] k from to = first_within f [] k from to
 with_run-within f (g ∷ gs) k from to =
-    cond_both (goes_on f g) (joined f g ∷ gs) (f ∷ g ∷ gs) (λ fs. mark_in_runs fs k ≡ Some (mark_within f k))
+    cond_both (goes_on f g) (joined f g ∷ gs) (f ∷ g ∷ gs) (λ fs. mark_at fs k ≡ Some (mark_within f k))
     (λ _. first_within (joined f g) gs k from (omega arith)) (λ _. first_within f (g ∷ gs) k from to)
 
 joined-outside : (f g : Fragment) (gs : List Fragment) (k : ℕ) → GoesOn f g → (k < f.at) ⊎ (end_of f ≤ k)
-    → mark_in_runs (joined f g ∷ gs) k ≡ mark_in_runs (g ∷ gs) k
+    → mark_at (joined f g ∷ gs) k ≡ mark_at (g ∷ gs) k
 joined-outside f g gs k on (inl before) =
     first_outside (joined f g) gs k (inl before) ∙ sym (first_outside g gs k (inl (omega (arith, on.at))))
 joined-outside f g gs k on (inr past) = elim (cases_lt k (end_of (joined f g))) [
@@ -64,35 +65,35 @@ joined-outside f g gs k on (inr past) = elim (cases_lt k (end_of (joined f g))) 
 ]
 
 with_run-outside : (f : Fragment) (gs : List Fragment) (k : ℕ) → (k < f.at) ⊎ (end_of f ≤ k)
-    → mark_in_runs (with_run f gs) k ≡ mark_in_runs gs k
+    → mark_at (with_run f gs) k ≡ mark_at gs k
 with_run-outside f [] k out = first_outside f [] k out
 with_run-outside f (g ∷ gs) k out =
-    cond_both (goes_on f g) (joined f g ∷ gs) (f ∷ g ∷ gs) (λ fs. mark_in_runs fs k ≡ mark_in_runs (g ∷ gs) k)
+    cond_both (goes_on f g) (joined f g ∷ gs) (f ∷ g ∷ gs) (λ fs. mark_at fs k ≡ mark_at (g ∷ gs) k)
     (λ on. joined-outside f g gs k (GoesOn-from f g on) out) (λ _. first_outside f (g ∷ gs) k out)
 
 -- ---- the marks of runs
 
-before_runs : (at : ℕ) (marks : List (Option Mark)) (k : ℕ) → k < at → mark_in_runs (runs_from at marks) k ≡ None
+before_runs : (at : ℕ) (marks : List (Option Mark)) (k : ℕ) → k < at → mark_at (runs_from at marks) k ≡ None
 before_runs at [] k before = refl
 before_runs at (None ∷ marks) k before = before_runs (at + 1) marks k (omega arith)
 before_runs at (Some m ∷ marks) k before =
     with_run-outside (byte_run at m) (runs_from (at + 1) marks) k (inl before) ∙ before_runs (at + 1) marks k (omega arith)
 
-mark_in_runs-from : (at : ℕ) (marks : List (Option Mark)) (k j : ℕ) → j ≡ at + k → mark_in_runs (runs_from at marks) j ≡ get_or marks k None
-mark_in_runs-from at [] k j is = refl
-mark_in_runs-from at (None ∷ marks) zero j is = before_runs (at + 1) marks j (omega (arith, is))
-mark_in_runs-from at (None ∷ marks) (suc k) j is = mark_in_runs-from (at + 1) marks k j (omega (arith, is))
-mark_in_runs-from at (Some m ∷ marks) zero j is =
+mark_at-from : (at : ℕ) (marks : List (Option Mark)) (k j : ℕ) → j ≡ at + k → mark_at (runs_from at marks) j ≡ get_or marks k None
+mark_at-from at [] k j is = refl
+mark_at-from at (None ∷ marks) zero j is = before_runs (at + 1) marks j (omega (arith, is))
+mark_at-from at (None ∷ marks) (suc k) j is = mark_at-from (at + 1) marks k j (omega (arith, is))
+mark_at-from at (Some m ∷ marks) zero j is =
     let place : m.place + (j - at) ≡ m.place = omega (arith, is) in
     with_run-within (byte_run at m) (runs_from (at + 1) marks) j (omega (arith, is)) (omega (arith, is))
     ∙ ap (λ p. Some (record { line = m.line; part = m.part; place = p })) place
-mark_in_runs-from at (Some m ∷ marks) (suc k) j is =
+mark_at-from at (Some m ∷ marks) (suc k) j is =
     with_run-outside (byte_run at m) (runs_from (at + 1) marks) j (inr (omega (arith, is)))
-    ∙ mark_in_runs-from (at + 1) marks k j (omega (arith, is))
+    ∙ mark_at-from (at + 1) marks k j (omega (arith, is))
 
 -- at each place the runs have the mark that stands there
-pub mark_in_runs-of : (marks : List (Option Mark)) (k : ℕ) → mark_in_runs (runs marks) k ≡ get_or marks k None
-mark_in_runs-of marks k = mark_in_runs-from 0 marks k k (omega arith)
+pub mark_at-of : (marks : List (Option Mark)) (k : ℕ) → mark_at (runs marks) k ≡ get_or marks k None
+mark_at-of marks k = mark_at-from 0 marks k k (omega arith)
 
 -- ---- each is as long as it can be
 

@@ -1,5 +1,5 @@
 -- The runs of some marks: what a read of them fetches, one run of bytes of one piece after the other.
-use Rattle.std.specs.Prelude.{◌≡◌, ℕ, ◌+◌, ◌-◌, ◌==◌, nat_le, nat_lt, Bool, false, ◌&&◌, List, [], ◌∷◌, Option, Some, None, if◌then◌else◌}
+use Rattle.std.specs.Prelude.{◌≡◌, ℕ, ◌+◌, ◌==◌, Bool, false, ◌&&◌, List, [], ◌∷◌, Option, Some, None, if◌then◌else◌}
 use Rattle.fs_types.specs.Fragments.{piece_eq, end_of}
 use Rattle.fs_types.specs.Marks.{Mark}
 use Rattle.fs_types.specs.Pieces.{Fragment}
@@ -27,21 +27,6 @@ runs_from at (Some m ∷ marks) = with_run (byte_run at m) (runs_from (at + 1) m
 -- the runs of these marks, each as long as it can be, in the order of their places
 abbrev pub runs : List (Option Mark) → List Fragment
 runs marks = runs_from 0 marks
-
--- ---- what runs are of
-
--- a place is in a run
-abbrev pub is_within : Fragment → ℕ → Bool
-is_within f k = nat_le f.at k && nat_lt k (end_of f)
-
--- the mark of a run at a place that is in it
-abbrev pub mark_within : Fragment → ℕ → Mark
-mark_within f k = record { line = f.piece.line; part = f.piece.part; place = f.from + (k - f.at) }
-
--- the mark that these runs have at a place, and none where none of them is
-abbrev pub mark_in_runs : List Fragment → ℕ → Option Mark
-mark_in_runs [] k = None
-mark_in_runs (f ∷ fs) k = if is_within f k then Some (mark_within f k) else mark_in_runs fs k
 
 -- no run goes on where the next one begins
 abbrev pub AreMaximal : List Fragment → Type 0

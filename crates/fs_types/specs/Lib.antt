@@ -12,3 +12,4 @@ pub mod Faults
 pub mod Room
 pub mod Pieces
 pub mod Fragments
+pub mod FragmentMarks
