@@ -1,10 +1,10 @@
 -- The list of marks that fragments have, after a put and after a cut.
-use Rattle.fs_types.proofs.Common.{◌≡◌, ℕ, ◌+◌, ◌-◌, ◌<◌, ◌≤◌, max, cond, leb, ltb, List, [], ◌∷◌, All, arith, length, get_or, map}
-use Rattle.fs_types.proofs.Common.{refl, sym, ap, ◌∙◌, Option, Some, None, nat_tests, ◌&&◌, cases_lt, inl, inr, range_with_len, cond-true, lt-ltb, All-weaker, All-append, All-cons}
+use Rattle.fs_types.proofs.Common.{◌≡◌, ℕ, ◌+◌, ◌-◌, ◌<◌, ◌≤◌, max, ltb, List, All, arith, get_or, map}
+use Rattle.fs_types.proofs.Common.{sym, ap, ◌∙◌, Option, Some, nat_tests, cases_lt, inl, inr, range_with_len, cond-true, lt-ltb, All-weaker}
 use Rattle.fs_types.proofs.Common.{length-map-range_with_len, get_or-map-range_with_len}
 use Rattle.std.proofs.lemmas.List.{ext_get_or, get_or_past}
 use Rattle.fs_types.specs.Fragments.{end_of}
-use Rattle.fs_types.specs.FragmentMarks.{is_within, mark_within, mark_at, marks_of_fragments}
+use Rattle.fs_types.specs.FragmentMarks.{mark_within, mark_at, marks_of_fragments}
 use Rattle.fs_types.specs.Marks.{Mark, no_mark}
 use Rattle.fs_types.specs.Overwrite.{put, cut}
 use Rattle.fs_types.specs.Pieces.{Fragment}
@@ -22,8 +22,8 @@ get_or-marks fs len k ends =
     elim (cases_lt k len) [
       | inl within ↦ get_or-map-range_with_len (mark_at fs) 0 len k k no_mark within (omega arith)
       | inr past ↦
-        get_or_past (marks_of_fragments fs len) k no_mark (omega (arith, length-map-range_with_len (mark_at fs) 0 len))
-        ∙ sym (mark_at-past fs k (All-weaker (λ f. end_of f ≤ len) (λ f. end_of f ≤ k) (λ f end. omega (arith, end)) fs ends))
+          get_or_past (marks_of_fragments fs len) k no_mark (omega (arith, length-map-range_with_len (mark_at fs) 0 len))
+          ∙ sym (mark_at-past fs k (All-weaker (λ f. end_of f ≤ len) (λ f. end_of f ≤ k) (λ f end. omega (arith, end)) fs ends))
     ]
 
 -- place k of a file that a fragment covers has the mark at its place in the fragment
@@ -45,17 +45,17 @@ marks_of_fragments-put f fs len some ends =
     let count_put = length-put no_mark marks f.at (marks_within f) (omega (arith, count_within)) in
     let kept = λ (k : ℕ). sym (get_or-marks fs len k ends) in
     let same : (k : ℕ) → mark_at after k ≡ get_or (put no_mark marks f.at (marks_within f)) k no_mark = λ k.
-      mark_at-put f fs k ∙ elim (cases_lt k f.at) [
-        | inl before ↦ grind (arith, nat_tests) ∙ kept k ∙ sym (get_or-put_before no_mark marks f.at (marks_within f) k before)
-        | inr from ↦ elim (cases_lt k (end_of f)) [
-          | inl to ↦
+    mark_at-put f fs k ∙ elim (cases_lt k f.at) [
+      | inl before ↦ grind (arith, nat_tests) ∙ kept k ∙ sym (get_or-put_before no_mark marks f.at (marks_within f) k before)
+      | inr from ↦ elim (cases_lt k (end_of f)) [
+        | inl to ↦
             grind (arith, nat_tests) ∙ sym (get_or-marks_within f k from to)
             ∙ sym (get_or-put_within no_mark marks f.at (marks_within f) k from (omega (arith, count_within)))
-          | inr past ↦
+        | inr past ↦
             grind (arith, nat_tests) ∙ kept k
             ∙ sym (get_or-put_behind no_mark marks f.at (marks_within f) k (omega (arith, count_within)))
-        ]
-      ] in
+      ]
+    ] in
     ext_get_or no_mark (marks_of_fragments after whole) (put no_mark marks f.at (marks_within f))
     (omega (arith, count, count_within, count_after, count_put))
     (λ k inside. get_or-map-range_with_len (mark_at after) 0 whole k k no_mark (omega (arith, inside, count_after)) (omega arith) ∙ same k)
@@ -68,6 +68,6 @@ marks_of_fragments-cut size fs len ends =
     ext_get_or no_mark (marks_of_fragments (cut_fragments size fs) size) (cut no_mark (marks_of_fragments fs len) size)
     (count ∙ sym (length-cut no_mark (marks_of_fragments fs len) size))
     (λ k inside. let below : k < size = omega (arith, inside, count) in
-      get_or-map-range_with_len (mark_at (cut_fragments size fs)) 0 size k k no_mark below (omega arith)
-      ∙ mark_at-cut size fs k ∙ cond-true (ltb k size) _ _ (lt-ltb k size below)
-      ∙ sym (get_or-marks fs len k ends) ∙ sym (get_or-cut no_mark (marks_of_fragments fs len) size k below))
+    get_or-map-range_with_len (mark_at (cut_fragments size fs)) 0 size k k no_mark below (omega arith)
+    ∙ mark_at-cut size fs k ∙ cond-true (ltb k size) _ _ (lt-ltb k size below)
+    ∙ sym (get_or-marks fs len k ends) ∙ sym (get_or-cut no_mark (marks_of_fragments fs len) size k below))

@@ -1,7 +1,7 @@
 -- What a look-up finds.
-use Rattle.std.specs.Prelude.{AllPairs, find}
-use Rattle.fs_types.proofs.Common.{◌≡◌, ℕ, ◌+◌, ◌-◌, ◌<◌, ◌≤◌, List, [], ◌∷◌, ◌++◌, All, All-nil, All-cons, arith, refl, ap, sym, ◌∙◌, same_Some}
-use Rattle.fs_types.proofs.Common.{Option, Some, None, nat_tests, cond_both, cond, ltb-true, ltb-false, subst, All-weaker}
+use Rattle.std.specs.Prelude.{AllPairs}
+use Rattle.fs_types.proofs.Common.{◌≡◌, ℕ, ◌<◌, ◌≤◌, List, [], ◌∷◌, ◌++◌, All, All-nil, All-cons, arith, refl, ap, sym, same_Some}
+use Rattle.fs_types.proofs.Common.{Some, None, nat_tests, cond_both, ltb-true, ltb-false, subst, All-weaker}
 use Rattle.fs_types.specs.Fragments.{end_of}
 use Rattle.fs_types.specs.FragmentMarks.{mark_at, mark_within}
 use Rattle.fs_types.specs.Pieces.{Fragment}
@@ -31,14 +31,14 @@ IsNext-found at (g ∷ fs) f found =
       ends_after = subst (λ h. at < end_of h) (same_Some g f same) (ltb-true at (end_of g) ends);
     })
     (λ ended same.
-      let later : IsNext at fs f = IsNext-found at fs f same in
-      record {
-        front = g ∷ later.front;
-        rest = later.rest;
-        is = ap (λ us. g ∷ us) later.is;
-        ended = All-cons (λ h. end_of h ≤ at) g later.front (ltb-false at (end_of g) ended) later.ended;
-        ends_after = later.ends_after;
-      })
+    let later : IsNext at fs f = IsNext-found at fs f same in
+    record {
+      front = g ∷ later.front;
+      rest = later.rest;
+      is = ap (λ us. g ∷ us) later.is;
+      ended = All-cons (λ h. end_of h ≤ at) g later.front (ltb-false at (end_of g) ended) later.ended;
+      ends_after = later.ends_after;
+    })
     found
 
 -- from the place on to the begin of what is found no place has a mark
@@ -48,13 +48,13 @@ before_next at [] f k ordered found from to = refl
 before_next at (g ∷ fs) f k ordered found from to =
     cond_both (ends_after at g) (Some g) (next_fragment at fs) (λ o. o ≡ Some f → mark_at (g ∷ fs) k ≡ None)
     (λ ends same.
-      let begin : g.at ≡ f.at = ap (λ h. h.at) (same_Some g f same) in
-      let ended = ltb-true at (end_of g) ends in
-      grind (arith, nat_tests, mark_at-behind g fs k ordered))
+    let begin : g.at ≡ f.at = ap (λ h. h.at) (same_Some g f same) in
+    let ended = ltb-true at (end_of g) ends in
+    grind (arith, nat_tests, mark_at-behind g fs k ordered))
     (λ ended same.
-      let end = ltb-false at (end_of g) ended in
-      let rest = before_next at fs f k (AllPairs-tail IsAhead g fs ordered) same from to in
-      grind (arith, nat_tests))
+    let end = ltb-false at (end_of g) ended in
+    let rest = before_next at fs f k (AllPairs-tail IsAhead g fs ordered) same from to in
+    grind (arith, nat_tests))
     found
 
 pub mark_at-before_next : (at : ℕ) (fs : List Fragment) (f : Fragment) (k : ℕ) → AreSpans fs → next_fragment at fs ≡ Some f
@@ -69,9 +69,9 @@ mark_at-in_next at (g ∷ fs) f k found from begun to =
     cond_both (ends_after at g) (Some g) (next_fragment at fs) (λ o. o ≡ Some f → mark_at (g ∷ fs) k ≡ Some (mark_within f k))
     (λ ends same. subst (λ h. mark_at (h ∷ fs) k ≡ Some (mark_within f k)) (sym (same_Some g f same)) (grind (arith, nat_tests)))
     (λ ended same.
-      let end = ltb-false at (end_of g) ended in
-      let rest = mark_at-in_next at fs f k same from begun to in
-      grind (arith, nat_tests))
+    let end = ltb-false at (end_of g) ended in
+    let rest = mark_at-in_next at fs f k same from begun to in
+    grind (arith, nat_tests))
     found
 
 -- where nothing is found no place from there on has a mark
