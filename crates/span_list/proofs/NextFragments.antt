@@ -1,11 +1,11 @@
 -- What a look-up finds.
 use Rattle.std.specs.Prelude.{AllPairs}
 use Rattle.fs_types.proofs.Common.{◌≡◌, ℕ, ◌<◌, ◌≤◌, List, [], ◌∷◌, ◌++◌, All, All-nil, All-cons, arith, refl, ap, sym, same_Some}
-use Rattle.fs_types.proofs.Common.{Some, None, nat_tests, cond_both, ltb-true, ltb-false, subst, All-weaker}
+use Rattle.fs_types.proofs.Common.{Some, None, nat_tests, cond_both, ltb-true, ltb-false, subst, All-weaker, All-contains, Contains-append_right}
 use Rattle.fs_types.specs.Fragments.{end_of}
 use Rattle.fs_types.specs.FragmentMarks.{mark_at, mark_within}
 use Rattle.fs_types.specs.Pieces.{Fragment}
-use Rattle.span_list.specs.Spans.{AreSpans, ends_after, next_fragment}
+use Rattle.span_list.specs.Spans.{IsSpan, AreSpans, ends_after, next_fragment}
 use Rattle.span_list.proofs.PlainLists.{AllPairs-tail}
 use Rattle.span_list.proofs.Parts.{IsAhead}
 use Rattle.span_list.proofs.Marks.{mark_at-behind, mark_at-past}
@@ -40,6 +40,13 @@ IsNext-found at (g ∷ fs) f found =
       ends_after = later.ends_after;
     })
     found
+
+-- what is found is one of the fragments
+pub IsSpan-found : (at : ℕ) (fs : List Fragment) (f : Fragment) → AreSpans fs → next_fragment at fs ≡ Some f → IsSpan f
+IsSpan-found at fs f spans found =
+    let next : IsNext at fs f = IsNext-found at fs f found in
+    All-contains IsSpan (next.front ++ f ∷ next.rest) f (subst (All IsSpan) next.is spans.each)
+    (Contains-append_right next.front (f ∷ next.rest) f (0, omega arith, refl))
 
 -- from the place on to the begin of what is found no place has a mark
 before_next : (at : ℕ) (fs : List Fragment) (f : Fragment) (k : ℕ) → AllPairs IsAhead fs → next_fragment at fs ≡ Some f

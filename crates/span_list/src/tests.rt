@@ -44,7 +44,7 @@ fn listed<S: Spans>(alloc: Global, list: &S) -> Result<Vec<Frag>, Fail> {
     for _ in 0..100 {
         let Some(f) = list.next(at) else { break };
         all.push(f)?;
-        at = f.at.saturating_add(f.len);
+        at = f.at + f.len;
     }
     Ok(all)
 }
