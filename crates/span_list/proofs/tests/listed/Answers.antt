@@ -1,7 +1,5 @@
-use Rattle.fs_types.proofs.Common.{◌≡◌, Some, arith, sym, ◌∙◌, ap}
+use Rattle.fs_types.proofs.Common.{arith, sym, ◌∙◌, ap}
 use Rattle.fs_types.specs.Fragments.{end_of}
-use Rattle.fs_types.specs.Pieces.{Fragment}
-use Rattle.span_list.specs.Spans.{IsSpan}
 use Rattle.span_list.proofs.CallerLemmas.{IsSpan-found}
 use Rattle.span_list.proofs.tests.listed.Goals as goal
 
