@@ -12,5 +12,7 @@ pub use Rattle.span_list.proofs.Counts.{fragment_count-put, is_mark_of, named-fr
 pub use Rattle.span_list.proofs.Counts.{no_mark-of_unnamed, unnamed-without_mark}
 -- a put and a cut keep fragments in order, and where they end
 pub use Rattle.span_list.proofs.Parts.{AreSpans-put, AreSpans-cut, put_ends, cut_ends}
+-- what a place leaves of fragments that all end by it, or all begin from it on
+pub use Rattle.span_list.proofs.Positions.{rests_before-ended, rests_before-begun, rests_from-ended, rests_from-begun}
 -- a put adds two at most
 pub use Rattle.span_list.proofs.Positions.{length-rests-le}

@@ -1,6 +1,7 @@
 -- How many fragments name a piece, after a put, and where its marks stand.
 use Rattle.fs_types.proofs.Common.{◌≡◌, ℕ, ◌+◌, ◌<◌, List, [], ◌∷◌, All, arith, Bool, true, false, ◌==◌, ◌&&◌, cond}
-use Rattle.fs_types.proofs.Common.{Option, Some, None, nat_tests, flat_map, ◌∙◌, ap, sum_by-cons, false≢true, cond_both, cond-true, cond-false, sym}
+use Rattle.fs_types.proofs.Common.{Option, Some, None, nat_tests, flat_map, ◌∙◌, ap, sum_by-cons, false≢true, cond_both, cond-true}
+use Rattle.fs_types.proofs.Common.{cond-false, sym}
 use Rattle.fs_types.proofs.Common.{All-head, All-tail, cases_Bool, cases_lt, false_from_ne_true, inl, inr, ltb-true, and_parts}
 use Rattle.std.specs.Prelude.{AllPairs}
 use Rattle.std.proofs.lemmas.List.Sums.{sum_by-append}
@@ -65,7 +66,8 @@ mark-of_named p (f ∷ fs) spans ordered named =
           )
     ]
 
-pub mark-from_named : (p : Piece) (fs : List Fragment) → AreSpans fs → 0 < fragment_count p fs → (k : ℕ) × (is_mark_of p (mark_at fs k) ≡ true)
+pub mark-from_named : (p : Piece) (fs : List Fragment) → AreSpans fs → 0 < fragment_count p fs
+    → (k : ℕ) × (is_mark_of p (mark_at fs k) ≡ true)
 mark-from_named p fs spans named = mark-of_named p fs spans.each spans.in_order named
 
 -- a piece is named by no fragment exactly where no place has a mark of it

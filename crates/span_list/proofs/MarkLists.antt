@@ -17,7 +17,8 @@ abbrev pub marks_within : Fragment → List (Option Mark)
 marks_within f = map (λ i. Some (mark_within f (f.at + i))) (range_with_len 0 f.len)
 
 -- place k of the marks of fragments that end by the length is the mark at place k, also behind the length
-pub get_or-marks : (fs : List Fragment) (len k : ℕ) → All (λ f. end_of f ≤ len) fs → get_or (marks_of_fragments fs len) k no_mark ≡ mark_at fs k
+pub get_or-marks : (fs : List Fragment) (len k : ℕ) → All (λ f. end_of f ≤ len) fs
+    → get_or (marks_of_fragments fs len) k no_mark ≡ mark_at fs k
 get_or-marks fs len k ends =
     elim (cases_lt k len) [
       | inl within ↦ get_or-map-range_with_len (mark_at fs) 0 len k k no_mark within (omega arith)

@@ -1,6 +1,7 @@
 -- The marks of fragments after a put and after a cut.
 use Rattle.fs_types.proofs.Common.{◌≡◌, ℕ, ◌<◌, ◌≤◌, cond, ltb, List, [], ◌∷◌, ◌++◌, flat_map, arith}
-use Rattle.fs_types.proofs.Common.{refl, ap, ◌∙◌, Some, None, nat_tests, cond_both, cond-true, cond-false, All, All-head, All-tail, All-weaker}
+use Rattle.fs_types.proofs.Common.{refl, ap, ◌∙◌, Some, None, nat_tests, cond_both, cond-true, cond-false, All, All-head, All-tail}
+use Rattle.fs_types.proofs.Common.{All-weaker}
 use Rattle.std.specs.Prelude.{AllPairs}
 use Rattle.span_list.proofs.PlainLists.{AllPairs-head}
 use Rattle.std.specs.Option.{option_or}

@@ -1,7 +1,8 @@
 -- What a look-up finds.
 use Rattle.std.specs.Prelude.{AllPairs}
 use Rattle.fs_types.proofs.Common.{◌≡◌, ℕ, ◌<◌, ◌≤◌, List, [], ◌∷◌, ◌++◌, All, All-nil, All-cons, arith, refl, ap, sym, same_Some}
-use Rattle.fs_types.proofs.Common.{Some, None, nat_tests, cond_both, ltb-true, ltb-false, subst, All-weaker, All-contains, Contains-append_right}
+use Rattle.fs_types.proofs.Common.{Some, None, nat_tests, cond_both, ltb-true, ltb-false, subst, All-weaker, All-contains}
+use Rattle.fs_types.proofs.Common.{Contains-append_right}
 use Rattle.fs_types.specs.Fragments.{end_of}
 use Rattle.fs_types.specs.FragmentMarks.{mark_at, mark_within}
 use Rattle.fs_types.specs.Pieces.{Fragment}

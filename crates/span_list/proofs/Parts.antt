@@ -139,4 +139,5 @@ put_ends f fs len ends =
     (All-weaker Ends (λ g. All Ends (rest_before f.at g)) (λ g end. All-rest_before Ends f.at g (λ begun. omega (arith, end))) fs longer))
     (All-cons Ends f (flat_map (rest_from (end_of f)) fs) (omega arith)
     (All-flat_map Ends (rest_from (end_of f)) fs
-    (All-weaker Ends (λ g. All Ends (rest_from (end_of f) g)) (λ g end. All-rest_from Ends (end_of f) g (λ ends. omega (arith, end))) fs longer)))
+    (All-weaker Ends (λ g. All Ends (rest_from (end_of f) g))
+    (λ g end. All-rest_from Ends (end_of f) g (λ ends. omega (arith, end))) fs longer)))

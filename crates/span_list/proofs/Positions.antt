@@ -2,8 +2,10 @@
 use Rattle.std.specs.List.{position_or_len}
 use Rattle.std.specs.List.Sorted.{IsPartitionPoint, IsPartitionedBy}
 use Rattle.fs_types.proofs.Common.{◌≡◌, ℕ, suc, ◌+◌, ◌-◌, ◌<◌, ◌≤◌, List, [], ◌∷◌, ◌++◌, All, flat_map, arith, length, refl, ap, ◌∙◌}
-use Rattle.fs_types.proofs.Common.{All-head, All-tail, All-cons, All-weaker, ltb-true, ltb-false, leb-true, cond_both, Bool, true, false, not, take, drop, sym, subst}
-use Rattle.fs_types.proofs.Common.{Option, slice_get, cases_eq, inl, inr, nat_tests, append-nil, cases_lt, cond-true, cond-false, true≢false, length-append}
+use Rattle.fs_types.proofs.Common.{All-head, All-tail, All-cons, All-weaker, ltb-true, ltb-false, leb-true, cond_both, Bool, true, false}
+use Rattle.fs_types.proofs.Common.{not, take, drop, sym, subst}
+use Rattle.fs_types.proofs.Common.{Option, slice_get, cases_eq, inl, inr, nat_tests, append-nil, cases_lt, cond-true, cond-false}
+use Rattle.fs_types.proofs.Common.{true≢false, length-append}
 use Rattle.std.specs.Option.{option_to_list}
 use Rattle.std.proofs.lemmas.Bool.{not-true, not-false, leb-false}
 use Rattle.std.proofs.lemmas.List.Sums.{prefix_len_is}
@@ -55,11 +57,11 @@ AreSpans-tail f fs spans = record {
 }
 
 -- nothing stands before a place from which on all begin
-none_before : (at : ℕ) (fs : List Fragment) → All (λ f. at ≤ f.at) fs → flat_map (rest_before at) fs ≡ []
-none_before at [] begin = refl
-none_before at (f ∷ fs) begin =
+pub rests_before-begun : (at : ℕ) (fs : List Fragment) → All (λ f. at ≤ f.at) fs → flat_map (rest_before at) fs ≡ []
+rests_before-begun at [] begin = refl
+rests_before-begun at (f ∷ fs) begin =
     let here : at ≤ f.at = All-head (λ f. at ≤ f.at) f fs begin in
-    let rest = none_before at fs (All-tail (λ f. at ≤ f.at) f fs begin) in
+    let rest = rests_before-begun at fs (All-tail (λ f. at ≤ f.at) f fs begin) in
     at_rest_before (λ us. us ++ flat_map (rest_before at) fs ≡ []) at f (λ _. rest) (λ begun. absurd (omega arith))
 
 abbrev fragment : ℕ → ℕ → Piece → ℕ → Fragment
@@ -79,18 +81,34 @@ whole_from at f some begins =
     ∙ ap (λ (n : ℕ). fragment f.at n f.piece (f.from + (f.at - f.at)) ∷ []) (omega arith)
     ∙ ap (λ (n : ℕ). fragment f.at f.len f.piece n ∷ []) (omega arith))
 
-all_from : (at : ℕ) (fs : List Fragment) → All IsSpan fs → All (λ f. at ≤ f.at) fs → flat_map (rest_from at) fs ≡ fs
-all_from at [] spans begin = refl
-all_from at (f ∷ fs) spans begin =
+pub rests_from-begun : (at : ℕ) (fs : List Fragment) → All IsSpan fs → All (λ f. at ≤ f.at) fs → flat_map (rest_from at) fs ≡ fs
+rests_from-begun at [] spans begin = refl
+rests_from-begun at (f ∷ fs) spans begin =
     let span : IsSpan f = All-head IsSpan f fs spans in
-    let rest = all_from at fs (All-tail IsSpan f fs spans) (All-tail (λ f. at ≤ f.at) f fs begin) in
+    let rest = rests_from-begun at fs (All-tail IsSpan f fs spans) (All-tail (λ f. at ≤ f.at) f fs begin) in
     ap (λ us. us ++ flat_map (rest_from at) fs) (whole_from at f span.has_bytes (All-head (λ f. at ≤ f.at) f fs begin))
     ∙ ap (λ us. f ∷ us) rest
+
+-- those that end by a place stand whole before it, and nothing of them from there on
+pub rests_before-ended : (at : ℕ) (fs : List Fragment) → All IsSpan fs → All (λ f. end_of f ≤ at) fs → flat_map (rest_before at) fs ≡ fs
+rests_before-ended at [] spans ends = refl
+rests_before-ended at (f ∷ fs) spans ends =
+    let span : IsSpan f = All-head IsSpan f fs spans in
+    let rest = rests_before-ended at fs (All-tail IsSpan f fs spans) (All-tail (λ f. end_of f ≤ at) f fs ends) in
+    ap (λ us. us ++ flat_map (rest_before at) fs) (whole_before at f span.has_bytes (All-head (λ f. end_of f ≤ at) f fs ends))
+    ∙ ap (λ us. f ∷ us) rest
+
+pub rests_from-ended : (at : ℕ) (fs : List Fragment) → All (λ f. end_of f ≤ at) fs → flat_map (rest_from at) fs ≡ []
+rests_from-ended at [] ends = refl
+rests_from-ended at (f ∷ fs) ends =
+    let here : end_of f ≤ at = All-head (λ f. end_of f ≤ at) f fs ends in
+    let rest = rests_from-ended at fs (All-tail (λ f. end_of f ≤ at) f fs ends) in
+    at_rest_from (λ us. us ++ flat_map (rest_from at) fs ≡ []) at f (λ _. rest) (λ ends. absurd (omega arith))
 
 -- fragments of which the first begins from a place on stand whole from there on
 all_from_first : (at : ℕ) (f : Fragment) (fs : List Fragment) → AreSpans (f ∷ fs) → at ≤ f.at → flat_map (rest_from at) (f ∷ fs) ≡ f ∷ fs
 all_from_first at f fs spans here =
-    all_from at (f ∷ fs) spans.each
+    rests_from-begun at (f ∷ fs) spans.each
     (All-cons (λ g. at ≤ g.at) f fs here
     (All-weaker (IsAhead f) (λ g. at ≤ g.at) (λ g behind. omega (arith, behind)) fs (AllPairs-head IsAhead f fs spans.in_order)))
 
@@ -104,7 +122,7 @@ rests_before at (f ∷ fs) spans =
     at_position (λ n. flat_map (rest_before at) (f ∷ fs)
     ≡ take n (f ∷ fs) ++ flat_map (rest_before at) (option_to_list (slice_get (drop n (f ∷ fs)) 0))) (ends_after at) f fs
     (λ e. ap (λ us. rest_before at f ++ us)
-    (none_before at fs (All-weaker (IsAhead f) (λ g. at ≤ g.at) (λ g behind. omega (arith, behind, ltb-true at (end_of f) e)) fs ahead)))
+    (rests_before-begun at fs (All-weaker (IsAhead f) (λ g. at ≤ g.at) (λ g behind. omega (arith, behind, ltb-true at (end_of f) e)) fs ahead)))
     (λ e. ap (λ us. us ++ flat_map (rest_before at) fs) (whole_before at f span.has_bytes (ltb-false at (end_of f) e))
     ∙ ap (λ us. f ∷ us) (rests_before at fs (AreSpans-tail f fs spans)))
 
@@ -127,7 +145,8 @@ rests_behind at f (g ∷ gs) spans begun =
     at_position (λ n. flat_map (rest_from at) (f ∷ g ∷ gs)
     ≡ flat_map (rest_from at) (option_to_list (slice_get (f ∷ take n (g ∷ gs)) (length (take n (g ∷ gs))))) ++ drop n (g ∷ gs))
     (begins_from at) g gs
-    (λ e. ap (λ us. rest_from at f ++ us) (all_from_first at g gs rest (leb-true at g.at e)) ∙ ap (λ us. us ++ (g ∷ gs)) (sym (append-nil _)))
+    (λ e. ap (λ us. rest_from at f ++ us) (all_from_first at g gs rest (leb-true at g.at e))
+    ∙ ap (λ us. us ++ (g ∷ gs)) (sym (append-nil _)))
     (λ e. let before : g.at < at = leb-false at g.at e in
     at_rest_from (λ us. us ++ flat_map (rest_from at) (g ∷ gs) ≡ flat_map (rest_from at) (g ∷ gs)) at f (λ _. refl)
     (λ ends. absurd (omega arith))
@@ -201,7 +220,7 @@ length-rests-le at to (f ∷ fs) spans before =
     elim (cases_lt at (end_of f)) [
       | inl ends ↦
           let ahead = AllPairs-head IsAhead f fs spans.in_order in
-          let none = none_before at fs (All-weaker (IsAhead f) (λ g. at ≤ g.at) (λ g behind. omega (arith, behind)) fs ahead) in
+          let none = rests_before-begun at fs (All-weaker (IsAhead f) (λ g. at ≤ g.at) (λ g behind. omega (arith, behind)) fs ahead) in
           omega (arith, of_before, of_from, ap length none, length-before-le at f, length-from-le to f, length-rests_from-le to fs)
       | inr ended ↦
           let gone = at_rest_from (λ us. length us ≡ 0) to f (λ _. refl) (λ ends. absurd (omega arith)) in

@@ -1,8 +1,9 @@
 //! Sorted fragments of a file: the trait of what keeps them, and a plain list of them. It touches
 //! nothing outside memory.
 //!
-//! A fragment is a range of the file and the bytes of a piece that stand there. One that is put over
-//! others takes their bytes away in its range; what is left of them stays. Neighbours aren't joined.
+//! A fragment is a range of the file and the bytes of a piece that stand there. One that is put
+//! over others takes their bytes away in its range; what is left of them stays. Neighbours aren't
+//! joined.
 //!
 //! ```
 //! let mut list = SpanList::new(alloc);

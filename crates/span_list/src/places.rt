@@ -1,9 +1,11 @@
 //! A vector of sorted fragments: where a place stands in it, and what is put there.
 
-ghost use Rattle.std.specs.Prelude.{◌≡◌, ◌≤◌, ◌<◌, ◌+◌, ◌-◌, ◌∷◌, ◌++◌, not, take, drop, length, vec_len, vec_capacity, OnSome};
+ghost use Rattle.std.specs.Prelude.{◌≡◌, ◌≤◌, ◌<◌, ◌+◌, ◌-◌, ◌∷◌, ◌++◌, not, take, drop, length};
+ghost use Rattle.std.specs.Prelude.{vec_len, vec_capacity, OnSome};
 ghost use Rattle.std.specs.List.{flat_map, insert, position_or_len};
 ghost use Rattle.std.specs.Option.{option_to_list};
-ghost use Rattle.span_list.specs.Spans.{AreSpans, IsSpan, begins_from, ends_after, cut_fragments, next_fragment, put_fragment, rest_before, rest_from};
+ghost use Rattle.span_list.specs.Spans.{AreSpans, IsSpan, begins_from, ends_after, cut_fragments};
+ghost use Rattle.span_list.specs.Spans.{next_fragment, put_fragment, rest_before, rest_from};
 
 use crate::rests::{rest_before, rest_from};
 use fs_types::Frag;
