@@ -18,7 +18,7 @@ pub record AreSpans (fs : List Fragment) : Type 0 where
   pub each : All IsSpan fs
   pub in_order : AllPairs (λ f g. end_of f ≤ g.at) fs
 
--- a fragment has bytes after those before a place
+-- a fragment ends after a place
 abbrev pub ends_after : ℕ → Fragment → Bool
 ends_after at f = nat_lt at (end_of f)
 
