@@ -1,6 +1,6 @@
 //! A vector of sorted fragments: where a place stands in it, and what is put there.
 
-ghost use Rattle.std.specs.Prelude.{◌≡◌, ◌≤◌, ◌<◌, ◌+◌, ◌++◌, take, drop, length, vec_len, vec_capacity, OnSome};
+ghost use Rattle.std.specs.Prelude.{◌≡◌, ◌≤◌, ◌<◌, ◌+◌, ◌-◌, ◌∷◌, ◌++◌, not, take, drop, length, vec_len, vec_capacity, OnSome};
 ghost use Rattle.std.specs.List.{flat_map, insert, position_or_len};
 ghost use Rattle.std.specs.Option.{option_to_list};
 ghost use Rattle.span_list.specs.Spans.{AreSpans, IsSpan, begins_from, ends_after, cut_fragments, next_fragment, put_fragment, rest_before, rest_from};
@@ -11,17 +11,27 @@ use fs_types::Frag;
 // How many of the first fragments end at or before a place.
 fn count_ended(frags: &[Frag], at: u64) -> usize
     requires { AreSpans frags.now }
-    ensures { result ≡ position_or_len (ends_after at) frags.now }
+    ensures count { result ≡ position_or_len (ends_after at) frags.now }
+    ensures within { result ≤ length frags.now }
 {
-    frags.partition_point(|f| f.at <= at && f.len <= at - f.at)
+    frags.partition_point(
+        |f: &Frag| -> bool
+            ensures { result ≡ not (ends_after at f.now) }
+        { f.at <= at && f.len <= at - f.at },
+    )
 }
 
 // How many of the first fragments begin before a place.
 fn count_begun(frags: &[Frag], at: u64) -> usize
     requires { AreSpans frags.now }
-    ensures { result ≡ position_or_len (begins_from at) frags.now }
+    ensures count { result ≡ position_or_len (begins_from at) frags.now }
+    ensures within { result ≤ length frags.now }
 {
-    frags.partition_point(|f| f.at < at)
+    frags.partition_point(
+        |f: &Frag| -> bool
+            ensures { result ≡ not (begins_from at f.now) }
+        { f.at < at },
+    )
 }
 
 /// The first fragment that ends after a place, if any.
@@ -29,7 +39,7 @@ pub fn next_in_list(frags: &[Frag], at: u64) -> Option<Frag>
     requires { AreSpans frags.now }
     ensures { result ≡ next_fragment at frags.now }
 {
-    frags.get(count_ended(frags, at)).copied()
+    frags[count_ended(frags, at)..].first().copied()
 }
 
 // How many of the fragments stand whole before a place, and what of the next one stands before it.
@@ -41,7 +51,7 @@ fn part_before(frags: &[Frag], at: u64) -> (usize, Option<Frag>)
     ensures next { OnSome result.1 (result.0 < length frags.now) }
 {
     let whole = count_ended(frags, at);
-    match frags.get(whole) {
+    match frags[whole..].first() {
         Some(f) => (whole, rest_before(*f, at)),
         None => (whole, None),
     }
@@ -54,6 +64,7 @@ fn part_from(frags: &[Frag], at: u64) -> (Option<Frag>, usize)
     ensures part { flat_map (rest_from at) frags.now
         ≡ option_to_list result.0 ++ drop result.1 frags.now }
     ensures count { result.1 ≡ position_or_len (begins_from at) frags.now }
+    ensures within { result.1 ≤ length frags.now }
 {
     let begun = count_begun(frags, at);
     match frags[..begun].last() {
@@ -62,15 +73,51 @@ fn part_from(frags: &[Frag], at: u64) -> (Option<Frag>, usize)
     }
 }
 
-// Puts a fragment in front of the one at this place, where there is room.
-fn insert(frags: &mut Vec<Frag>, place: usize, f: Frag)
+// What a range takes away from fragments: those from the first to before the last, of which
+// something may be left on each side.
+#[derive(Drop)]
+struct Gap {
+    first: usize,
+    last: usize,
+    before: Option<Frag>,
+    behind: Option<Frag>,
+}
+
+// The gap from a place to before another.
+fn gap_between(frags: &[Frag], at: u64, end: u64) -> Gap
+    requires spans { AreSpans frags.now }
+    requires rising { at < end }
+    ensures before { flat_map (rest_before at) frags.now
+        ≡ take result.first frags.now ++ option_to_list result.before }
+    ensures behind { flat_map (rest_from end) frags.now
+        ≡ option_to_list result.behind ++ drop result.last frags.now }
+    ensures order { result.first ≤ result.last }
+    ensures within { result.last ≤ length frags.now }
+    ensures few { length (option_to_list result.before) + length (option_to_list result.behind)
+        ≤ 1 + (result.last - result.first) }
+{
+    let (first, before) = part_before(frags, at);
+    let (behind, last) = part_from(frags, end);
+    Gap {
+        first,
+        last,
+        before,
+        behind,
+    }
+}
+
+// Puts a fragment, if there is one, in front of the one at this place, where there is room.
+fn insert(frags: &mut Vec<Frag>, place: usize, part: Option<Frag>)
     requires place { place ≤ vec_len frags.old }
-    requires room { vec_len frags.old < vec_capacity frags.old }
-    ensures items { frags.new.items ≡ insert frags.old.items place f }
-    ensures len { vec_len frags.new ≡ vec_len frags.old + 1 }
+    requires room { vec_len frags.old + length (option_to_list part) ≤ vec_capacity frags.old }
+    ensures items { frags.new.items
+        ≡ take place frags.old.items ++ (option_to_list part ++ drop place frags.old.items) }
+    ensures len { vec_len frags.new ≡ vec_len frags.old + length (option_to_list part) }
     ensures capacity { vec_capacity frags.old ≤ vec_capacity frags.new }
 {
-    frags.insert(place, f).unwrap();
+    if let Some(f) = part {
+        frags.insert(place, f).unwrap();
+    }
 }
 
 /// Puts a fragment over the others, where there is room for two more.
@@ -79,19 +126,14 @@ pub fn put_in_list(frags: &mut Vec<Frag>, f: Frag)
     requires span { IsSpan f }
     requires room { vec_len frags.old + 2 ≤ vec_capacity frags.old }
     ensures items { frags.new.items ≡ put_fragment f frags.old.items }
-    ensures capacity { vec_capacity frags.old ≤ vec_capacity frags.new }
     ensures len { vec_len frags.new ≤ vec_len frags.old + 2 }
+    ensures capacity { vec_capacity frags.old ≤ vec_capacity frags.new }
 {
-    let (first, before) = part_before(frags, f.at);
-    let (behind, last) = part_from(frags, f.at + f.len);
-    frags.drain(first..last);
-    if let Some(rest) = behind {
-        insert(frags, first, rest);
-    }
-    insert(frags, first, f);
-    if let Some(rest) = before {
-        insert(frags, first, rest);
-    }
+    let gap = gap_between(frags, f.at, f.at + f.len);
+    frags.drain(gap.first..gap.last);
+    insert(frags, gap.first, gap.behind);
+    insert(frags, gap.first, Some(f));
+    insert(frags, gap.first, gap.before);
 }
 
 /// Drops all bytes from a place on.
