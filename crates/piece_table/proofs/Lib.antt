@@ -1,1 +1,4 @@
 mod Tables
+mod Covered
+mod Counts
+mod Releases

@@ -1,6 +1,6 @@
 -- What a table has of each piece once it has something else of one.
-use Rattle.fs_types.proofs.Common.{◌≡◌, ℕ, ◌<◌, Bool, true, false, cond, ◌&&◌, List, Option, Some, None, IsTrue, refl, sym, ap, ◌∙◌}
-use Rattle.fs_types.proofs.Common.{Decides-eqb}
+use Rattle.fs_types.proofs.Common.{◌≡◌, ℕ, ◌<◌, Bool, true, false, cond, is_some, ◌&&◌, List, [], ◌∷◌, length, Option, Some, None, IsTrue, refl, sym, ap, ◌∙◌}
+use Rattle.fs_types.proofs.Common.{Decides-eqb, arith}
 use Rattle.std.specs.Map.{lookup}
 use Rattle.std.proofs.lemmas.Bool.Decides.{Decides-and}
 use Rattle.fs_types.specs.Fragments.{piece_eq}
@@ -82,3 +82,26 @@ and_false false t is = refl
 pub unheld : {H : Type 0} (found : Option (Counted H)) → hold_in found ≡ None → found ≡ None
 unheld None none = refl
 unheld (Some c) none = absurd cc
+
+module _ {H : Type 0} (is_ready : H → Bool) (piece_of : H → Piece) (es : List (Piece × Counted H))
+    (all : AreCounted is_ready piece_of es) (q : Piece) where
+  -- a piece that no fragment names has no hold
+  pub unnumbered : number_in (lookup (piece_eq q) es) ≡ 0 → hold_in (lookup (piece_eq q) es) ≡ None
+  unnumbered = by (lookup (piece_eq q) es) refl
+    where
+      by : (o : Option (Counted H)) → lookup (piece_eq q) es ≡ o → number_in o ≡ 0 → hold_in o ≡ None
+      by None is zero = refl
+      by (Some c) is zero = let some = all.number q c is in absurd (omega arith)
+
+  -- and one that is named has one
+  pub numbered : 0 < number_in (lookup (piece_eq q) es) → is_some (hold_in (lookup (piece_eq q) es)) ≡ true
+  numbered = by (lookup (piece_eq q) es) refl
+    where
+      by : (o : Option (Counted H)) → lookup (piece_eq q) es ≡ o → 0 < number_in o → is_some (hold_in o) ≡ true
+      by None is some = absurd (omega arith)
+      by (Some c) is some = refl
+
+-- where a piece is named the table isn't empty
+pub some_entries : {H : Type 0} (es : List (Piece × Counted H)) (q : Piece) → 0 < number_in (lookup (piece_eq q) es) → 0 < length es
+some_entries [] q some = absurd (omega arith)
+some_entries (e ∷ es) q some = omega arith

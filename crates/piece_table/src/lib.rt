@@ -2,5 +2,7 @@
 #![tactic(auto)]
 
 mod piece_table;
+mod ranges;
+mod thinning;
 
 pub use piece_table::PieceTable;

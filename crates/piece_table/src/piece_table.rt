@@ -1,6 +1,6 @@
 //! Pieces that fragments name: how many fragments name each, and its hold.
 
-ghost use Rattle.std.specs.Prelude.{◌≡◌, ◌==◌, ◌&&◌, ◌+◌, ◌-◌, ◌<◌, ◌≤◌, ◌^◌, length, is_some, if◌then◌else◌, option_copied, IsTrue, IsOk, IfErr, OnOk, OnErr};
+ghost use Rattle.std.specs.Prelude.{◌≡◌, ◌==◌, ◌&&◌, ◌+◌, ◌-◌, ◌<◌, ◌≤◌, ◌^◌, length, is_some, if◌then◌else◌, option_copied, IsTrue, IsOk, IfErr, IfSome, OnOk, OnErr};
 ghost use Rattle.fs_types.specs.Fragments.{piece_eq};
 ghost use Rattle.fs_types.specs.Pieces.{Piece};
 ghost use Rattle.piece_table.specs.PieceTable.{AreCounted, number_of, hold_of};
@@ -75,6 +75,7 @@ impl<H: Hold + Drop> PieceTable<H> {
         ensures same { OnErr result (self.new.entries ≡ self.old.entries) }
         ensures room { 0 < self.old.spare → IsOk result }
         ensures spare { self.old.spare ≤ self.new.spare + 1 }
+        ensures counted { AreCounted H.is_ready H.piece self.new.entries }
     {
         let piece = h.piece();
         match self.pieces.insert(piece, Counted { number: 1, hold: h }) {
@@ -95,6 +96,7 @@ impl<H: Hold + Drop> PieceTable<H> {
         ensures holds { (q : Piece) → hold_of self.new q ≡ hold_of self.old q }
         ensures len { length self.new.entries ≡ length self.old.entries }
         ensures spare { self.new.spare ≡ self.old.spare }
+        ensures counted { AreCounted H.is_ready H.piece self.new.entries }
     {
         let Some(counted) = self.pieces.get_mut(&p) else {
             return;
@@ -106,6 +108,7 @@ impl<H: Hold + Drop> PieceTable<H> {
     /// memory.
     pub fn less(&mut self, p: PieceId) -> Option<H>
         requires { 0 < number_of self.old p }
+        ensures last { is_some result ≡ (number_of self.old p == 1) }
         ensures out { result ≡ (if number_of self.old p == 1 then hold_of self.old p else None) }
         ensures numbers { (q : Piece)
             → number_of self.new q ≡ (if piece_eq p q then number_of self.old p - 1 else number_of self.old q) }
@@ -113,6 +116,8 @@ impl<H: Hold + Drop> PieceTable<H> {
             → hold_of self.new q ≡ (if piece_eq p q && number_of self.old p == 1 then None else hold_of self.old q) }
         ensures len { length self.new.entries + (if is_some result then 1 else 0) ≡ length self.old.entries }
         ensures spare { self.old.spare ≤ self.new.spare }
+        ensures piece { IfSome result (λ h. H.piece h ≡ p) }
+        ensures counted { AreCounted H.is_ready H.piece self.new.entries }
     {
         let counted = self.pieces.get_mut(&p)?;
         counted.number -= 1;

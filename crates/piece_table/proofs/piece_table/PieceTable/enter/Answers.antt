@@ -31,3 +31,6 @@ returns-in-Ok-clause-len g c =
     c.in-Ok.ensures.len
     ∙ ap (λ o. length c.self.inside.pieces.entries + (if is_some o then 0 else 1)) (c.in-Ok.ensures.old ∙ none)
     ∙ ap (λ (t : _). length t.entries + 1) c.self.view_is
+
+pub returns-in-Ok-clause-counted : goal.returns-in-Ok-clause-counted
+returns-in-Ok-clause-counted g c = invariant_of-self g c

@@ -77,3 +77,9 @@ returns-clause-holds g c q =
     (updated_twice c.self.inside.pieces.entries _ _ c.args.p (Some w) None
     ((c.get_mut.follows.holds w).3 (ap is_some (sym value))).0 c.swap_remove.ensures.updates.0) q
     ∙ ap (λ b. cond b None (hold_in (lookup (piece_eq q) c.self.inside.pieces.entries))) test)
+
+pub returns-then-counted-gt0-clause-counted : goal.returns-then-counted-gt0-clause-counted
+returns-then-counted-gt0-clause-counted g c = invariant_of-self-then-counted-gt0 g c
+
+pub returns-clause-counted : goal.returns-clause-counted
+returns-clause-counted g c = invariant_of-self-2 g c

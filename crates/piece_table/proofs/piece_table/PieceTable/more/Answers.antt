@@ -35,3 +35,6 @@ returns-clause-holds g c q =
     rw (← c.self.view_is)
     (same_hold_after c.self.inside.pieces.entries _ c.args.p (Some w) ((c.get_mut.follows.holds w).3 (ap is_some (sym value))).0
     (ap hold_in value) q)
+
+pub returns-clause-counted : goal.returns-clause-counted
+returns-clause-counted g c = invariant_of-self-2 g c
