@@ -1,13 +1,15 @@
 -- The marks of fragments after a put and after a cut.
-use Rattle.fs_types.proofs.Common.{◌≡◌, ℕ, ◌≤◌, cond, ltb, List, [], ◌∷◌, ◌++◌, flat_map, arith}
-use Rattle.fs_types.proofs.Common.{refl, ap, ◌∙◌, Some, None, nat_tests, cond_both, cond-true, cond-false}
+use Rattle.fs_types.proofs.Common.{◌≡◌, ℕ, ◌<◌, ◌≤◌, cond, ltb, List, [], ◌∷◌, ◌++◌, flat_map, arith}
+use Rattle.fs_types.proofs.Common.{refl, ap, ◌∙◌, Some, None, nat_tests, cond_both, cond-true, cond-false, All, All-head, All-tail, All-weaker}
+use Rattle.std.specs.Prelude.{AllPairs}
+use Rattle.span_list.proofs.PlainLists.{AllPairs-head}
 use Rattle.std.specs.Option.{option_or}
 use Rattle.fs_types.specs.Fragments.{end_of}
 use Rattle.fs_types.specs.FragmentMarks.{is_within, mark_within, mark_at}
 use Rattle.fs_types.specs.Marks.{Mark}
 use Rattle.fs_types.specs.Pieces.{Fragment}
 use Rattle.span_list.specs.Spans.{rest_from, put_fragment, cut_fragments}
-use Rattle.span_list.proofs.Parts.{from_on, at_rest_before, at_rest_from}
+use Rattle.span_list.proofs.Parts.{from_on, at_rest_before, at_rest_from, IsAhead}
 
 -- below the place of a cut each mark is as before, and from there on there is none
 pub mark_at-cut : (at : ℕ) (fs : List Fragment) (k : ℕ) → mark_at (cut_fragments at fs) k ≡ cond (ltb k at) (mark_at fs k) None
@@ -47,3 +49,21 @@ pub mark_at-put : (f : Fragment) (fs : List Fragment) (k : ℕ)
 mark_at-put f fs k =
     mark_at-append (cut_fragments f.at fs) (f ∷ flat_map (rest_from (end_of f)) fs) k
     ∙ grind (arith, nat_tests, mark_at-cut f.at fs k, mark_at-from (end_of f) fs k)
+
+-- no mark stands behind the end of all, and none before the begin of all
+pub mark_at-past : (fs : List Fragment) (k : ℕ) → All (λ f. end_of f ≤ k) fs → mark_at fs k ≡ None
+mark_at-past [] k past = refl
+mark_at-past (f ∷ fs) k past =
+    let here = All-head (λ f. end_of f ≤ k) f fs past in
+    grind (arith, nat_tests, here, mark_at-past fs k (All-tail (λ f. end_of f ≤ k) f fs past))
+
+pub mark_at-ahead : (fs : List Fragment) (k : ℕ) → All (λ f. k < f.at) fs → mark_at fs k ≡ None
+mark_at-ahead [] k ahead = refl
+mark_at-ahead (f ∷ fs) k ahead =
+    let here = All-head (λ f. k < f.at) f fs ahead in
+    grind (arith, nat_tests, here, mark_at-ahead fs k (All-tail (λ f. k < f.at) f fs ahead))
+
+-- before a fragment ends none of those behind it has a mark
+pub mark_at-behind : (f : Fragment) (fs : List Fragment) (k : ℕ) → AllPairs IsAhead (f ∷ fs) → k < end_of f → mark_at fs k ≡ None
+mark_at-behind f fs k ordered before =
+    mark_at-ahead fs k (All-weaker (IsAhead f) (λ g. k < g.at) (λ g ahead. omega (arith, ahead)) fs (AllPairs-head IsAhead f fs ordered))

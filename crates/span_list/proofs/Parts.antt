@@ -103,8 +103,8 @@ AreSpans-from at fs spans = record {
 }
 
 -- what stands before a place ends there or before
-pub before_ends : (at : ℕ) (fs : List Fragment) → All (λ f. end_of f ≤ at) (cut_fragments at fs)
-before_ends at fs = All-flat_map (λ f. end_of f ≤ at) (rest_before at) fs
+pub cut_ends : (at : ℕ) (fs : List Fragment) → All (λ f. end_of f ≤ at) (cut_fragments at fs)
+cut_ends at fs = All-flat_map (λ f. end_of f ≤ at) (rest_before at) fs
     (λ k d within. All-rest_before (λ f. end_of f ≤ at) at _ (λ begun. omega arith))
 
 -- what stands from a place on begins there or behind
@@ -125,5 +125,18 @@ AreSpans-put f fs span spans =
           (All-weaker (λ g. end_of g ≤ f.at) (λ g. All (IsAhead g) (f ∷ behind))
           (λ g ended. All-cons (IsAhead g) f behind ended
           (All-weaker (IsAhead f) (IsAhead g) (λ h ahead. omega (arith, ahead, ended)) behind f_ahead))
-          (cut_fragments f.at fs) (before_ends f.at fs));
+          (cut_fragments f.at fs) (cut_ends f.at fs));
     }
+
+-- where the others end by a length, all end by it and the end of the fragment after it was put
+pub put_ends : (f : Fragment) (fs : List Fragment) (len : ℕ) → All (λ g. end_of g ≤ len) fs
+    → All (λ g. end_of g ≤ max len (end_of f)) (put_fragment f fs)
+put_ends f fs len ends =
+    let Ends : Fragment → Type 0 = λ g. end_of g ≤ max len (end_of f) in
+    let longer : All Ends fs = All-weaker (λ g. end_of g ≤ len) Ends (λ g end. omega (arith, end)) fs ends in
+    All-append Ends (cut_fragments f.at fs) (f ∷ flat_map (rest_from (end_of f)) fs)
+    (All-flat_map Ends (rest_before f.at) fs
+    (All-weaker Ends (λ g. All Ends (rest_before f.at g)) (λ g end. All-rest_before Ends f.at g (λ begun. omega (arith, end))) fs longer))
+    (All-cons Ends f (flat_map (rest_from (end_of f)) fs) (omega arith)
+    (All-flat_map Ends (rest_from (end_of f)) fs
+    (All-weaker Ends (λ g. All Ends (rest_from (end_of f) g)) (λ g end. All-rest_from Ends (end_of f) g (λ ends. omega (arith, end))) fs longer)))

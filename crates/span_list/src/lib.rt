@@ -21,3 +21,6 @@ mod spans;
 
 pub use span_list::SpanList;
 pub use spans::Spans;
+
+#[cfg(test)]
+mod tests;

@@ -1,0 +1,16 @@
+-- What a caller cites of sorted fragments and their marks: the crates above import from here alone.
+
+-- the mark at each place after a put and after a cut, and before, behind and between the fragments
+pub use Rattle.span_list.proofs.Marks.{mark_at-put, mark_at-cut, mark_at-ahead, mark_at-past}
+-- the list of marks after a put and after a cut
+pub use Rattle.span_list.proofs.MarkLists.{marks_within, get_or-marks, marks_of_fragments-put, marks_of_fragments-cut}
+-- what a look-up finds, and which places have no mark then
+pub use Rattle.span_list.proofs.NextFragments.{IsNext, IsNext-found, IsSpan-found, mark_at-before_next, mark_at-in_next}
+pub use Rattle.span_list.proofs.NextFragments.{ended-none, mark_at-after_last}
+-- how many fragments name a piece, and that one does exactly where some place has a mark of it
+pub use Rattle.span_list.proofs.Counts.{fragment_count-put, is_mark_of, named-from_mark, mark-from_named}
+pub use Rattle.span_list.proofs.Counts.{no_mark-of_unnamed, unnamed-without_mark}
+-- a put and a cut keep fragments in order, and where they end
+pub use Rattle.span_list.proofs.Parts.{AreSpans-put, AreSpans-cut, put_ends, cut_ends}
+-- a put adds two at most
+pub use Rattle.span_list.proofs.Positions.{length-rests-le}
