@@ -1,11 +1,16 @@
 -- How many fragments name a piece, in what a range leaves of them.
 use Rattle.fs_types.proofs.Common.{◌≡◌, ℕ, ◌+◌, ◌<◌, ◌≤◌, Bool, true, false, cond, leb, ltb, List, [], ◌∷◌, ◌++◌, All, All-head, All-tail, filter, flat_map}
-use Rattle.fs_types.proofs.Common.{arith, nat_tests, cond_both, cond-true, cond-false, sum_by-cons, refl, ap, sym, ◌∙◌}
+use Rattle.fs_types.proofs.Common.{arith, nat_tests, count_by-le-length, ◌||◌, lt-ltb, ltb-true, ltb-false, get_or, cases_Bool, inl, inr, ◌⊎◌, cond_both, cond-true, cond-false, sum_by-cons, refl, ap, sym, ◌∙◌}
+use Rattle.std.proofs.Common.{⊎_elim}
+use Rattle.std.proofs.lemmas.List.Folds.{list_any_at}
 use Rattle.std.proofs.lemmas.List.Sums.{sum_by-append}
 use Rattle.fs_types.specs.Fragments.{end_of, piece_eq, fragment_count}
 use Rattle.fs_types.specs.Pieces.{Fragment, Piece}
-use Rattle.span_list.specs.Spans.{IsSpan, rest_before, rest_from, begins_from, ends_after, put_fragment}
+use Rattle.span_list.specs.Spans.{IsSpan, AreSpans, rest_before, rest_from, begins_from, ends_after, put_fragment}
 use Rattle.span_list.proofs.Parts.{at_rest_before, at_rest_from, before, from_on}
+use Rattle.fs_types.specs.declared.limits.TheConstants.{LONGEST_FILE}
+use Rattle.piece_table.specs.HeldSpans.{is_named}
+use Rattle.piece_table.proofs.Covered.{few}
 use Rattle.piece_table.proofs.Tables.{piece_eq-itself}
 use Rattle.piece_table.specs.Ranges.{covered, is_covered, reaching, reaches_past}
 
@@ -15,6 +20,11 @@ naming q f = cond (piece_eq f.piece q) 1 0
 
 pub naming-itself : (f : Fragment) → naming f.piece f ≡ 1
 naming-itself f = cond-true (piece_eq f.piece f.piece) 1 0 (piece_eq-itself f.piece)
+
+-- what counts a fragment names it
+pub naming_one : (q : Piece) (f : Fragment) → naming q f ≡ 1 → piece_eq f.piece q ≡ true
+naming_one q f =
+    cond_both (piece_eq f.piece q) 1 0 (λ n. n ≡ 1 → piece_eq f.piece q ≡ true) (λ e _. e) (λ _ no. absurd (omega arith))
 
 pub count-cons : (q : Piece) (f : Fragment) (fs : List Fragment) → fragment_count q (f ∷ fs) ≡ naming q f + fragment_count q fs
 count-cons q f fs = sum_by-cons (naming q) f fs
@@ -81,3 +91,54 @@ count-laid q f fs old more new span each up down =
     let behind = flat_map (rest_from (end_of f)) fs in
     omega (arith, count_sides q f.at (end_of f) fs each (omega arith), count-append q before (f ∷ behind), count-cons q f behind,
       count-cons q f fs)
+
+pub few_named : (q : Piece) (fs : List Fragment) → AreSpans fs → fragment_count q fs ≤ LONGEST_FILE
+few_named q fs spans = omega (arith, count_by-le-length (λ f. piece_eq f.piece q) fs, few fs spans)
+
+-- a piece is named where some fragment names it
+pub named_count : (q : Piece) (fs : List Fragment) → is_named fs q ≡ ltb 0 (fragment_count q fs)
+named_count q [] = refl
+named_count q (f ∷ fs) =
+    let rest : is_named fs q ≡ ltb 0 (fragment_count q fs) = named_count q fs in
+    elim (cases_Bool (piece_eq f.piece q)) [
+      | inl e ↦
+          let one = cond-true {A = ℕ} (piece_eq f.piece q) 1 0 e in
+          ap (λ b. b || is_named fs q) e ∙ sym (lt-ltb 0 (fragment_count q (f ∷ fs)) (omega (arith, count-cons q f fs)))
+      | inr e ↦
+          let none = cond-false {A = ℕ} (piece_eq f.piece q) 1 0 e in
+          let same : fragment_count q fs ≡ fragment_count q (f ∷ fs) = omega (arith, count-cons q f fs) in
+          ap (λ b. b || is_named fs q) e ∙ rest ∙ ap (ltb 0) same
+    ]
+
+pub named_some : (q : Piece) (fs : List Fragment) → is_named fs q ≡ true → 0 < fragment_count q fs
+named_some q fs named = ltb-true 0 (fragment_count q fs) (sym (named_count q fs) ∙ named)
+
+pub some_named : (q : Piece) (fs : List Fragment) → 0 < fragment_count q fs → is_named fs q ≡ true
+some_named q fs some = named_count q fs ∙ lt-ltb 0 (fragment_count q fs) some
+
+pub named_none : (q : Piece) (fs : List Fragment) → is_named fs q ≡ false → fragment_count q fs ≡ 0
+named_none q fs unnamed = let none = ltb-false 0 (fragment_count q fs) (sym (named_count q fs) ∙ unnamed) in omega arith
+
+-- each fragment names its piece
+pub All-named : (fs : List Fragment) → All (λ f. is_named fs f.piece ≡ true) fs
+All-named fs k d within = list_any_at (λ f. piece_eq f.piece (get_or fs k d).piece) fs k d within (piece_eq-itself (get_or fs k d).piece)
+
+-- a put names the piece of its fragment, and of the others only such as were named
+pub put_names : (f : Fragment) (fs : List Fragment) → 0 < fragment_count f.piece (put_fragment f fs)
+put_names f fs =
+    let before = flat_map (rest_before f.at) fs in
+    let behind = flat_map (rest_from (end_of f)) fs in
+    omega (arith, count-append f.piece before (f ∷ behind), count-cons f.piece f behind, naming-itself f)
+
+pub named_by_put : (q : Piece) (f : Fragment) (fs : List Fragment) → IsSpan f → All IsSpan fs → 0 < fragment_count q (put_fragment f fs)
+    → fragment_count q fs ≡ 0 → naming q f ≡ 1
+named_by_put q f fs span each some none =
+    let has_bytes = span.has_bytes in
+    let before = flat_map (rest_before f.at) fs in
+    let behind = flat_map (rest_from (end_of f)) fs in
+    let one : (naming q f ≡ 1) ⊎ (naming q f ≡ 0) = cond_both (piece_eq f.piece q) 1 0 (λ n. (n ≡ 1) ⊎ (n ≡ 0)) (λ _. inl refl) (λ _. inr refl) in
+    ⊎_elim (λ e. e) (λ e. absurd (omega (arith, count_sides q f.at (end_of f) fs each (omega arith), count-append q before (f ∷ behind),
+      count-cons q f behind, count-filter-le q (reaches_past f.at (end_of f)) fs))) one
+
+pub head_named : (f : Fragment) (fs : List Fragment) → 0 < fragment_count f.piece (f ∷ fs)
+head_named f fs = omega (arith, count-cons f.piece f fs, naming-itself f)

@@ -237,3 +237,11 @@ ended_within at end f ends = grind (arith, nat_tests)
 
 pub reaches : (at end : ℕ) (f : Fragment) → f.at < at → end < end_of f → reaches_past at end f ≡ true
 reaches at end f begins ends = grind (arith, nat_tests)
+
+-- all fragments lie whole in the longest file
+pub covered_all : (fs : List Fragment) → All IsSpan fs → covered 0 LONGEST_FILE fs ≡ fs
+covered_all [] each = refl
+covered_all (f ∷ fs) each =
+    let in_file : end_of f ≤ LONGEST_FILE = (All-head IsSpan f fs each).in_file in
+    let rest = covered_all fs (All-tail IsSpan f fs each) in
+    grind (arith, nat_tests)

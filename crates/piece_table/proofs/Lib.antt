@@ -2,3 +2,5 @@ mod Tables
 mod Covered
 mod Counts
 mod Releases
+mod Holds
+mod OnePut

@@ -1,6 +1,6 @@
 -- What a table has of each piece once it has something else of one.
-use Rattle.fs_types.proofs.Common.{◌≡◌, ℕ, ◌<◌, Bool, true, false, cond, is_some, ◌&&◌, List, [], ◌∷◌, length, Option, Some, None, IsTrue, refl, sym, ap, ◌∙◌}
-use Rattle.fs_types.proofs.Common.{Decides-eqb, arith}
+use Rattle.fs_types.proofs.Common.{◌≡◌, ℕ, ◌<◌, Bool, true, false, cond, is_some, ◌&&◌, List, [], ◌∷◌, length, Option, Some, None, IsTrue, refl, sym, ap, ◌∙◌, subst}
+use Rattle.fs_types.proofs.Common.{Decides-eqb, arith, none-some, same_Some}
 use Rattle.std.specs.Map.{lookup}
 use Rattle.std.proofs.lemmas.Bool.Decides.{Decides-and}
 use Rattle.fs_types.specs.Fragments.{piece_eq}
@@ -16,6 +16,9 @@ same_piece p q is =
 
 pub piece_eq-itself : (p : Piece) → piece_eq p p ≡ true
 piece_eq-itself p = (Decides-and _ _ (Decides-eqb p.line p.line) (Decides-eqb p.part p.part)).1 (refl, refl)
+
+pub piece_eq-sym : (p q : Piece) → piece_eq p q ≡ true → piece_eq q p ≡ true
+piece_eq-sym p q is = subst (λ (r : Piece). piece_eq r p ≡ true) (same_piece p q is) (piece_eq-itself p)
 
 -- the last of two changes of one piece stands
 pub updated_twice : {X : Type 0} (es mid new : List (Piece × X)) (p : Piece) (v w : Option X)
@@ -105,3 +108,15 @@ module _ {H : Type 0} (is_ready : H → Bool) (piece_of : H → Piece) (es : Lis
 pub some_entries : {H : Type 0} (es : List (Piece × Counted H)) (q : Piece) → 0 < number_in (lookup (piece_eq q) es) → 0 < length es
 some_entries [] q some = absurd (omega arith)
 some_entries (e ∷ es) q some = omega arith
+
+module _ {H : Type 0} (is_ready : H → Bool) (piece_of : H → Piece) (es : List (Piece × Counted H))
+    (all : AreCounted is_ready piece_of es) (q : Piece) (h : H) where
+  -- each hold is ready and of its piece
+  pub hold_facts : hold_in (lookup (piece_eq q) es) ≡ Some h → IsTrue (is_ready h) × (piece_of h ≡ q)
+  hold_facts = by (lookup (piece_eq q) es) refl
+    where
+      by : (o : Option (Counted H)) → lookup (piece_eq q) es ≡ o → hold_in o ≡ Some h → IsTrue (is_ready h) × (piece_of h ≡ q)
+      by None is none = absurd (none-some h none)
+      by (Some c) is some =
+          let same = same_Some c.hold h some in
+          (subst (λ g. IsTrue (is_ready g)) same (all.ready q c is), ap piece_of (sym same) ∙ all.piece q c is)

@@ -61,6 +61,9 @@ pub record Kept (H : Type 0) : Type 0 where
   pub fragments : List Fragment
   pub pieces : Pieces H
 
+abbrev pub kept : {H : Type 0} → List Fragment → Pieces H → Kept H
+kept fragments pieces = record { fragments = fragments; pieces = pieces }
+
 -- what is kept as fragments with holds
 abbrev pub held : {H : Type 0} → Kept H → Held H
 held x = record { fragments = x.fragments; hold_of = hold_of x.pieces }

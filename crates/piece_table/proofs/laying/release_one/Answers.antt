@@ -2,7 +2,7 @@ use Rattle.fs_types.proofs.Common.{◌≡◌, sym, ◌∙◌, ◌++◌, None, co
 use Rattle.piece_table.specs.PieceTable.{hold_of}
 use Rattle.piece_table.proofs.Tables.{unnumbered}
 use Rattle.piece_table.proofs.Releases.{Thins-one, one_less, ComesOut-kept, ComesOut-one}
-use Rattle.piece_table.proofs.thinning.release_one.Goals as goal
+use Rattle.piece_table.proofs.laying.release_one.Goals as goal
 
 pub returns-in-Some-clause-thins : goal.returns-in-Some-clause-thins
 returns-in-Some-clause-thins g c =

@@ -5,7 +5,7 @@ use Rattle.piece_table.specs.PieceTable.{number_of}
 use Rattle.piece_table.specs.Ranges.{reaching, reaches_past}
 use Rattle.piece_table.proofs.Counts.{count-one, naming-itself, count-filter-le}
 use Rattle.piece_table.proofs.Releases.{one_more}
-use Rattle.piece_table.proofs.thinning.count_reaching.Goals as goal
+use Rattle.piece_table.proofs.laying.count_reaching.Goals as goal
 
 pub more-requires-clause-there : goal.more-requires-clause-there
 more-requires-clause-there g c =

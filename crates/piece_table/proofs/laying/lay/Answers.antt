@@ -5,7 +5,7 @@ use Rattle.span_list.specs.Spans.{IsSpan, AreSpans, put_fragment}
 use Rattle.piece_table.specs.PieceTable.{number_of, hold_of}
 use Rattle.piece_table.specs.Ranges.{covered, is_covered, reaching, reaches_past}
 use Rattle.piece_table.proofs.Counts.{count-cons, count-filter-le, count-laid}
-use Rattle.piece_table.proofs.thinning.lay.Goals as goal
+use Rattle.piece_table.proofs.laying.lay.Goals as goal
 
 pub release_covered-requires-clause-there : goal.release_covered-requires-clause-there
 release_covered-requires-clause-there g c q =

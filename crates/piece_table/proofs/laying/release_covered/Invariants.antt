@@ -4,7 +4,7 @@ use Rattle.fs_types.specs.Pieces.{Piece}
 use Rattle.piece_table.specs.PieceTable.{number_of, hold_of}
 use Rattle.piece_table.specs.Ranges.{covered}
 use Rattle.piece_table.specs.Thinning.{Thins, ComesOut}
-use Rattle.piece_table.proofs.thinning.release_covered.Given as goal
+use Rattle.piece_table.proofs.laying.release_covered.Given as goal
 
 -- those behind the place are still counted, and what came out so far was pushed
 abbrev pub invariant-loop-g : goal.invariant-loop-g

@@ -6,7 +6,7 @@ use Rattle.piece_table.specs.Ranges.{covered}
 use Rattle.piece_table.proofs.Counts.{count-cons, naming-itself}
 use Rattle.piece_table.proofs.Tables.{some_entries}
 use Rattle.piece_table.proofs.Releases.{Thins-itself, Thins-then, ComesOut-none, ComesOut-then, held_before, unheld_after, one_less}
-use Rattle.piece_table.proofs.thinning.release_covered.Goals as goal
+use Rattle.piece_table.proofs.laying.release_covered.Goals as goal
 
 pub release_one-requires-clause-there : goal.release_one-requires-clause-there
 release_one-requires-clause-there g c =
