@@ -1,13 +1,13 @@
 -- A fragment of a new piece that was put with its hold.
-use Rattle.fs_types.proofs.Common.{◌≡◌, ℕ, ◌+◌, ◌<◌, ◌≤◌, Bool, true, false, cond, List, ◌∷◌, Option, Some, None, is_some, refl, sym, ap, ◌∙◌, subst, arith}
-use Rattle.fs_types.proofs.Common.{cases_Bool, cases_lt, inl, inr, cond-true, cond-false, true≢false, same_Some}
+use Rattle.fs_types.proofs.Common.{◌≡◌, ℕ, ◌+◌, ◌<◌, ◌≤◌, ◌^◌, Bool, true, false, cond, List, ◌∷◌, Option, Some, None, is_some, refl, sym, ap, ◌∙◌, subst, arith}
+use Rattle.fs_types.proofs.Common.{cases_Bool, cases_lt, cond_both, inl, inr, cond-true, cond-false, true≢false, same_Some}
 use Rattle.fs_types.specs.Fragments.{piece_eq, fragment_count}
 use Rattle.fs_types.specs.Pieces.{Piece, Fragment}
 use Rattle.span_list.specs.Spans.{IsSpan, put_fragment}
 use Rattle.piece_table.specs.HeldSpans.{HandsOver, IsKept, Kept, Puts, held, is_named, kept}
 use Rattle.piece_table.specs.PieceTable.{AreCounted, Pieces, number_of, hold_of}
 use Rattle.piece_table.specs.Thinning.{Thins, ComesOut}
-use Rattle.piece_table.proofs.Counts.{count-cons, naming, put_names, some_named}
+use Rattle.piece_table.proofs.Counts.{count-cons, few_named, put_names, some_named}
 use Rattle.piece_table.proofs.Holds.{HaveHolds, HaveHolds-kept, HaveHolds-more, HaveHolds-put, hold_laid, IsKept-laid, HandsOver-laid}
 use Rattle.piece_table.proofs.Tables.{piece_eq-itself, piece_eq-sym, same_piece}
 
@@ -37,6 +37,13 @@ module _ {H : Type 0} (is_ready : H → Bool) (piece_of : H → Piece) (byte_cou
         omega (arith, entered_numbers q, cond-false _ 1 (number_of old.pieces q) of_h, count-cons q f old.fragments,
           cond-false {A = ℕ} (piece_eq f.piece q) 1 0 other, is_kept.numbers q)
   ]
+
+  pub entered_few : (q : Piece) → number_of entered q < 2 ^ 63
+  entered_few q =
+      cond_both (piece_eq f.piece q) 1 0 (λ n. number_of entered q ≡ n + fragment_count q old.fragments → number_of entered q < 2 ^ 63)
+      (λ _ is. omega (arith, is, few_named q old.fragments is_kept.are_held.spans))
+      (λ _ is. omega (arith, is, few_named q old.fragments is_kept.are_held.spans))
+      (entered_counts q ∙ count-cons q f old.fragments)
 
   hold_here : (q : Piece) → piece_eq f.piece q ≡ true → hold_of entered q ≡ Some h
   hold_here q same = entered_holds q ∙ cond-true _ (Some h) (hold_of old.pieces q) (ap (λ (p : Piece). piece_eq p q) of_f ∙ same)
