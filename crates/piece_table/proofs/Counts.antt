@@ -65,17 +65,25 @@ pub count_sides : (q : Piece) (at end : ℕ) (fs : List Fragment) → All IsSpan
 count_sides q at end [] each below = refl
 count_sides q at end (f ∷ fs) each below =
     let span : IsSpan f = All-head IsSpan f fs each in
-    omega (arith, count-append q (rest_before at f) (flat_map (rest_before at) fs), count-before q at f,
-      count-append q (rest_from end f) (flat_map (rest_from end) fs), count-from q end f, count-filter q (is_covered at end) f fs,
-      count-filter q (reaches_past at end) f fs, count-cons q f fs, one_side at end f (naming q f) span.has_bytes below,
-      count_sides q at end fs (All-tail IsSpan f fs each) below)
+    omega (
+      arith,
+      count-append q (rest_before at f) (flat_map (rest_before at) fs),
+      count-before q at f,
+      count-append q (rest_from end f) (flat_map (rest_from end) fs),
+      count-from q end f,
+      count-filter q (is_covered at end) f fs,
+      count-filter q (reaches_past at end) f fs,
+      count-cons q f fs,
+      one_side at end f (naming q f) span.has_bytes below,
+      count_sides q at end fs (All-tail IsSpan f fs each) below,
+    )
 
 -- those of a list that pass a test name a piece at most as often as all
 pub count-filter-le : (q : Piece) (p : Fragment → Bool) (fs : List Fragment) → fragment_count q (filter p fs) ≤ fragment_count q fs
 count-filter-le q p [] = omega arith
 count-filter-le q p (f ∷ fs) =
     cond_both (p f) (naming q f) 0 (λ n. fragment_count q (filter p (f ∷ fs)) ≡ n + fragment_count q (filter p fs)
-      → fragment_count q (filter p (f ∷ fs)) ≤ fragment_count q (f ∷ fs))
+    → fragment_count q (filter p (f ∷ fs)) ≤ fragment_count q (f ∷ fs))
     (λ _ is. omega (arith, is, count-cons q f fs, count-filter-le q p fs))
     (λ _ is. omega (arith, is, count-cons q f fs, count-filter-le q p fs))
     (count-filter q p f fs)
@@ -89,8 +97,13 @@ count-laid q f fs old more new span each up down =
     let some = span.has_bytes in
     let before = flat_map (rest_before f.at) fs in
     let behind = flat_map (rest_from (end_of f)) fs in
-    omega (arith, count_sides q f.at (end_of f) fs each (omega arith), count-append q before (f ∷ behind), count-cons q f behind,
-      count-cons q f fs)
+    omega (
+      arith,
+      count_sides q f.at (end_of f) fs each (omega arith),
+      count-append q before (f ∷ behind),
+      count-cons q f behind,
+      count-cons q f fs,
+    )
 
 pub few_named : (q : Piece) (fs : List Fragment) → AreSpans fs → fragment_count q fs ≤ LONGEST_FILE
 few_named q fs spans = omega (arith, count_by-le-length (λ f. piece_eq f.piece q) fs, few fs spans)
@@ -137,8 +150,13 @@ named_by_put q f fs span each some none =
     let before = flat_map (rest_before f.at) fs in
     let behind = flat_map (rest_from (end_of f)) fs in
     let one : (naming q f ≡ 1) ⊎ (naming q f ≡ 0) = cond_both (piece_eq f.piece q) 1 0 (λ n. (n ≡ 1) ⊎ (n ≡ 0)) (λ _. inl refl) (λ _. inr refl) in
-    ⊎_elim (λ e. e) (λ e. absurd (omega (arith, count_sides q f.at (end_of f) fs each (omega arith), count-append q before (f ∷ behind),
-      count-cons q f behind, count-filter-le q (reaches_past f.at (end_of f)) fs))) one
+    ⊎_elim (λ e. e) (λ e. absurd (omega (
+      arith,
+      count_sides q f.at (end_of f) fs each (omega arith),
+      count-append q before (f ∷ behind),
+      count-cons q f behind,
+      count-filter-le q (reaches_past f.at (end_of f)) fs,
+    ))) one
 
 pub head_named : (f : Fragment) (fs : List Fragment) → 0 < fragment_count f.piece (f ∷ fs)
 head_named f fs = omega (arith, count-cons f.piece f fs, naming-itself f)

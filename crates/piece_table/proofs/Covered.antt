@@ -52,9 +52,9 @@ none_begun at (f ∷ fs) spans none =
     cond_both (ends_after at f) (Some f) (next_fragment at fs) (λ o. o ≡ None → find (begins_from at) (f ∷ fs) ≡ None)
     (λ ends some. absurd cc)
     (λ ended rest.
-      let end = ltb-false at (end_of f) ended in
-      let later = none_begun at fs (AreSpans-tail f fs spans) rest in
-      grind (arith, nat_tests))
+    let end = ltb-false at (end_of f) ended in
+    let later = none_begun at fs (AreSpans-tail f fs spans) rest in
+    grind (arith, nat_tests))
     none
 
 -- a fragment that doesn't begin before the place is found by that too
@@ -66,9 +66,9 @@ found_begun at (f ∷ fs) g spans found begins =
     cond_both (ends_after at f) (Some f) (next_fragment at fs) (λ o. o ≡ Some g → find (begins_from at) (f ∷ fs) ≡ Some g)
     (λ ends same. let same : f ≡ g = same_Some f g same in subst (λ (h : Fragment). find (begins_from at) (h ∷ fs) ≡ Some g) (sym same) (grind (arith, nat_tests)))
     (λ ended rest.
-      let end = ltb-false at (end_of f) ended in
-      let later = found_begun at fs g (AreSpans-tail f fs spans) rest begins in
-      grind (arith, nat_tests))
+    let end = ltb-false at (end_of f) ended in
+    let later = found_begun at fs g (AreSpans-tail f fs spans) rest begins in
+    grind (arith, nat_tests))
     found
 
 -- fragments that all begin behind a place are found alike by what begins and by what ends
@@ -88,18 +88,18 @@ found_behind at (f ∷ fs) g spans found before =
     cond_both (ends_after at f) (Some f) (next_fragment at fs)
     (λ o. o ≡ Some g → find (begins_from at) (f ∷ fs) ≡ next_fragment (end_of g) (f ∷ fs))
     (λ ends same.
-      let same : f ≡ g = same_Some f g same in
-      subst (λ (h : Fragment). find (begins_from at) (f ∷ fs) ≡ next_fragment (end_of h) (f ∷ fs)) same
-      (let begun : f.at < at = omega (arith, ap (λ h. h.at) same) in
-      let end = ltb-true at (end_of f) ends in
-      let later = found_ahead at (end_of f) fs (AreSpans-tail f fs spans) (AreSpans-ahead f fs spans) (omega arith) in
-      grind (arith, nat_tests)))
+    let same : f ≡ g = same_Some f g same in
+    subst (λ (h : Fragment). find (begins_from at) (f ∷ fs) ≡ next_fragment (end_of h) (f ∷ fs)) same
+    (let begun : f.at < at = omega (arith, ap (λ h. h.at) same) in
+    let end = ltb-true at (end_of f) ends in
+    let later = found_ahead at (end_of f) fs (AreSpans-tail f fs spans) (AreSpans-ahead f fs spans) (omega arith) in
+    grind (arith, nat_tests)))
     (λ ended rest.
-      let end = ltb-false at (end_of f) ended in
-      let some : 0 < f.len = (AreSpans-head f fs spans).has_bytes in
-      let past : at < end_of g = next_ends at fs g rest in
-      let later = found_behind at fs g (AreSpans-tail f fs spans) rest before in
-      grind (arith, nat_tests))
+    let end = ltb-false at (end_of f) ended in
+    let some : 0 < f.len = (AreSpans-head f fs spans).has_bytes in
+    let past : at < end_of g = next_ends at fs g rest in
+    let later = found_behind at fs g (AreSpans-tail f fs spans) rest before in
+    grind (arith, nat_tests))
     found
 
 found_begins : (at : ℕ) (fs : List Fragment) (g : Fragment) → find (begins_from at) fs ≡ Some g → at ≤ g.at
@@ -143,18 +143,18 @@ covered_next at end (f ∷ fs) g spans found ends =
     cond_both (begins_from at f) (Some f) (find (begins_from at) fs)
     (λ o. o ≡ Some g → covered at end (f ∷ fs) ≡ g ∷ covered (end_of g) end (f ∷ fs))
     (λ begins same.
-      let same : f ≡ g = same_Some f g same in
-      subst (λ (h : Fragment). covered at end (f ∷ fs) ≡ h ∷ covered (end_of h) end (f ∷ fs)) same
-      (let begun : at ≤ f.at = leb-true at f.at begins in
-      let ended : end_of f ≤ end = omega (arith, ends, ap end_of same) in
-      let some : 0 < f.len = (AreSpans-head f fs spans).has_bytes in
-      let rest = covered_ahead at (end_of f) end fs (AreSpans-ahead f fs spans) (omega arith) in
-      grind (arith, nat_tests)))
+    let same : f ≡ g = same_Some f g same in
+    subst (λ (h : Fragment). covered at end (f ∷ fs) ≡ h ∷ covered (end_of h) end (f ∷ fs)) same
+    (let begun : at ≤ f.at = leb-true at f.at begins in
+    let ended : end_of f ≤ end = omega (arith, ends, ap end_of same) in
+    let some : 0 < f.len = (AreSpans-head f fs spans).has_bytes in
+    let rest = covered_ahead at (end_of f) end fs (AreSpans-ahead f fs spans) (omega arith) in
+    grind (arith, nat_tests)))
     (λ before rest.
-      let begun : f.at < at = leb-false at f.at before in
-      let behind : at ≤ g.at = found_begins at fs g rest in
-      let later = covered_next at end fs g (AreSpans-tail f fs spans) rest ends in
-      grind (arith, nat_tests))
+    let begun : f.at < at = leb-false at f.at before in
+    let behind : at ≤ g.at = found_begins at fs g rest in
+    let later = covered_next at end fs g (AreSpans-tail f fs spans) rest ends in
+    grind (arith, nat_tests))
     found
 
 -- where it doesn't, none lies whole there
@@ -164,14 +164,14 @@ covered_none at end [] g spans found past = refl
 covered_none at end (f ∷ fs) g spans found past =
     cond_both (begins_from at f) (Some f) (find (begins_from at) fs) (λ o. o ≡ Some g → covered at end (f ∷ fs) ≡ [])
     (λ begins same.
-      let same : end_of f ≡ end_of g = ap end_of (same_Some f g same) in
-      let begun : at ≤ f.at = leb-true at f.at begins in
-      let rest = covered_ahead at (end_of f) end fs (AreSpans-ahead f fs spans) (omega arith) in
-      let none = covered_past (end_of f) end fs (AreSpans-tail f fs spans).each (omega arith) in
-      grind (arith, nat_tests))
+    let same : end_of f ≡ end_of g = ap end_of (same_Some f g same) in
+    let begun : at ≤ f.at = leb-true at f.at begins in
+    let rest = covered_ahead at (end_of f) end fs (AreSpans-ahead f fs spans) (omega arith) in
+    let none = covered_past (end_of f) end fs (AreSpans-tail f fs spans).each (omega arith) in
+    grind (arith, nat_tests))
     (λ before rest.
-      let later = covered_none at end fs g (AreSpans-tail f fs spans) rest past in
-      grind (arith, nat_tests))
+    let later = covered_none at end fs g (AreSpans-tail f fs spans) rest past in
+    grind (arith, nat_tests))
     found
 
 -- fragments in order, each with a byte, are at most as many as the longest file has bytes
@@ -206,15 +206,15 @@ reaching_next at end (f ∷ fs) g spans le found =
     cond_both (ends_after at f) (Some f) (next_fragment at fs)
     (λ o. o ≡ Some g → reaching at end (f ∷ fs) ≡ cond (reaches_past at end g) (g ∷ []) [])
     (λ ends same.
-      subst (λ (h : Fragment). reaching at end (f ∷ fs) ≡ cond (reaches_past at end h) (h ∷ []) []) (same_Some f g same)
-      (let past = ltb-true at (end_of f) ends in
-      let none = none_reaching at end fs
-        (All-weaker (IsAhead f) (λ g. at ≤ g.at) (λ g ahead. omega (arith, ahead)) fs (AreSpans-ahead f fs spans)) in
-      ap (λ us. cond (reaches_past at end f) (f ∷ us) us) none))
+    subst (λ (h : Fragment). reaching at end (f ∷ fs) ≡ cond (reaches_past at end h) (h ∷ []) []) (same_Some f g same)
+    (let past = ltb-true at (end_of f) ends in
+    let none = none_reaching at end fs
+    (All-weaker (IsAhead f) (λ g. at ≤ g.at) (λ g ahead. omega (arith, ahead)) fs (AreSpans-ahead f fs spans)) in
+    ap (λ us. cond (reaches_past at end f) (f ∷ us) us) none))
     (λ ended rest.
-      let past = ltb-false at (end_of f) ended in
-      let later = reaching_next at end fs g (AreSpans-tail f fs spans) le rest in
-      grind (arith, nat_tests))
+    let past = ltb-false at (end_of f) ended in
+    let later = reaching_next at end fs g (AreSpans-tail f fs spans) le rest in
+    grind (arith, nat_tests))
     found
 
 pub reaching_none : (at end : ℕ) (fs : List Fragment) → at ≤ end → next_fragment at fs ≡ None → reaching at end fs ≡ []
@@ -223,9 +223,9 @@ reaching_none at end (f ∷ fs) le none =
     cond_both (ends_after at f) (Some f) (next_fragment at fs) (λ o. o ≡ None → reaching at end (f ∷ fs) ≡ [])
     (λ ends some. absurd cc)
     (λ ended rest.
-      let past = ltb-false at (end_of f) ended in
-      let later = reaching_none at end fs le rest in
-      grind (arith, nat_tests))
+    let past = ltb-false at (end_of f) ended in
+    let later = reaching_none at end fs le rest in
+    grind (arith, nat_tests))
     none
 
 -- which fragments reach past both ends

@@ -44,11 +44,11 @@ module _ {H : Type 0} (byte_count : H → ℕ) where
       ];
       within = All-append (LiesIn byte_count hold) (flat_map (rest_before f.at) fs) (f ∷ flat_map (rest_from (end_of f)) fs)
           (All-flat_map (LiesIn byte_count hold) (rest_before f.at) fs
-            (All-weaker (LiesIn byte_count hold) (λ g. All (LiesIn byte_count hold) (rest_before f.at g)) (LiesIn-before f.at) fs have.within))
+          (All-weaker (LiesIn byte_count hold) (λ g. All (LiesIn byte_count hold) (rest_before f.at g)) (LiesIn-before f.at) fs have.within))
           (All-cons (LiesIn byte_count hold) f (flat_map (rest_from (end_of f)) fs) lies
-            (All-flat_map (LiesIn byte_count hold) (rest_from (end_of f)) fs
-              (All-weaker (LiesIn byte_count hold) (λ g. All (LiesIn byte_count hold) (rest_from (end_of f) g)) (LiesIn-from (end_of f)) fs
-                have.within)));
+          (All-flat_map (LiesIn byte_count hold) (rest_from (end_of f)) fs
+          (All-weaker (LiesIn byte_count hold) (λ g. All (LiesIn byte_count hold) (rest_from (end_of f) g)) (LiesIn-from (end_of f)) fs
+          have.within)));
     }
 
     pub HaveHolds-puts : (over fs : List Fragment) → HaveHolds hold fs → HaveHolds hold over → HaveHolds hold (put_fragments over fs)
@@ -56,7 +56,7 @@ module _ {H : Type 0} (byte_count : H → ℕ) where
     HaveHolds-puts (f ∷ over) fs have of_over =
         HaveHolds-puts over (put_fragment f fs)
         (HaveHolds-put f fs have (AreSpans-head f over of_over.spans) (of_over.named f.piece (head_named f over))
-          (All-head (LiesIn byte_count hold) f over of_over.within))
+        (All-head (LiesIn byte_count hold) f over of_over.within))
         (record {
           spans = AreSpans-tail f over of_over.spans;
           named = λ q some. of_over.named q (omega (arith, count-cons q f over));
@@ -123,12 +123,15 @@ module _ {H : Type 0} (byte_count : H → ℕ) where
         pub HandsOver-laid : (dead after : List H) → ComesOut piece_of (hold_of before) (hold_of laid) dead after
             → HandsOver piece_of (held old) (held (kept fs laid)) dead after
         HandsOver-laid dead after comes =
-            let out = comes.2 in
-            (comes.0, comes.1, record {
-              held = λ k d inside.
-                  let h = get_or comes.0 k d in
-                  sym (same (piece_of h) (unnamed_laid (piece_of h) (out.gone k d inside))) ∙ out.held k d inside;
-              unnamed = λ k d inside. unnamed_laid (piece_of (get_or comes.0 k d)) (out.gone k d inside);
-              each = λ q h was unnamed. out.each q h (same q unnamed ∙ was) (hold_laid q ∙ cond-false _ (hold_of before q) None unnamed);
-              once = out.once;
-            })
+            let out = comes.2 in (
+              comes.0,
+              comes.1,
+              record {
+                held = λ k d inside.
+                    let h = get_or comes.0 k d in
+                    sym (same (piece_of h) (unnamed_laid (piece_of h) (out.gone k d inside))) ∙ out.held k d inside;
+                unnamed = λ k d inside. unnamed_laid (piece_of (get_or comes.0 k d)) (out.gone k d inside);
+                each = λ q h was unnamed. out.each q h (same q unnamed ∙ was) (hold_laid q ∙ cond-false _ (hold_of before q) None unnamed);
+                once = out.once;
+              },
+            )

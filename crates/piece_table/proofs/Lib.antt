@@ -4,3 +4,4 @@ mod Counts
 mod Releases
 mod Holds
 mod OnePut
+mod Moves

@@ -30,12 +30,23 @@ module _ {H : Type 0} (is_ready : H → Bool) (piece_of : H → Piece) (byte_cou
     | inl same ↦
         let of_h : piece_eq (piece_of h) q ≡ true = ap (λ (p : Piece). piece_eq p q) of_f ∙ same in
         let none : fragment_count q old.fragments ≡ 0 = ap (λ (p : Piece). fragment_count p old.fragments) (sym (same_piece f.piece q same)) ∙ new_piece in
-        omega (arith, entered_numbers q, cond-true _ 1 (number_of old.pieces q) of_h, count-cons q f old.fragments,
-          cond-true {A = ℕ} (piece_eq f.piece q) 1 0 same)
+        omega (
+          arith,
+          entered_numbers q,
+          cond-true _ 1 (number_of old.pieces q) of_h,
+          count-cons q f old.fragments,
+          cond-true {A = ℕ} (piece_eq f.piece q) 1 0 same,
+        )
     | inr other ↦
         let of_h : piece_eq (piece_of h) q ≡ false = ap (λ (p : Piece). piece_eq p q) of_f ∙ other in
-        omega (arith, entered_numbers q, cond-false _ 1 (number_of old.pieces q) of_h, count-cons q f old.fragments,
-          cond-false {A = ℕ} (piece_eq f.piece q) 1 0 other, is_kept.numbers q)
+        omega (
+          arith,
+          entered_numbers q,
+          cond-false _ 1 (number_of old.pieces q) of_h,
+          count-cons q f old.fragments,
+          cond-false {A = ℕ} (piece_eq f.piece q) 1 0 other,
+          is_kept.numbers q,
+        )
   ]
 
   pub entered_few : (q : Piece) → number_of entered q < 2 ^ 63
@@ -55,10 +66,10 @@ module _ {H : Type 0} (is_ready : H → Bool) (piece_of : H → Piece) (byte_cou
   have_entered =
       HaveHolds-put byte_count (hold_of entered) f old.fragments
       (HaveHolds-more byte_count (hold_of old.pieces) (hold_of entered) old.fragments
-        (HaveHolds-kept byte_count is_ready piece_of old is_kept) (λ q some. elim (cases_Bool (piece_eq f.piece q)) [
-          | inl same ↦ absurd (true≢false (sym some ∙ ap is_some (ap (hold_of old.pieces) (sym (same_piece f.piece q same)) ∙ new)))
-          | inr other ↦ hold_there q other
-        ]))
+      (HaveHolds-kept byte_count is_ready piece_of old is_kept) (λ q some. elim (cases_Bool (piece_eq f.piece q)) [
+        | inl same ↦ absurd (true≢false (sym some ∙ ap is_some (ap (hold_of old.pieces) (sym (same_piece f.piece q same)) ∙ new)))
+        | inr other ↦ hold_there q other
+      ]))
       span (ap is_some (hold_here f.piece (piece_eq-itself f.piece)))
       (λ g is. subst (λ x. f.from + f.len ≤ byte_count x) (same_Some h g (sym (hold_here f.piece (piece_eq-itself f.piece)) ∙ is)) lies)
 
@@ -75,7 +86,7 @@ module _ {H : Type 0} (is_ready : H → Bool) (piece_of : H → Piece) (byte_cou
     named_here : (q : Piece) → piece_eq f.piece q ≡ true → is_named fs q ≡ true
     named_here q same = subst (λ us. is_named us q ≡ true) (sym put)
         (subst (λ p. is_named (put_fragment f old.fragments) p ≡ true) (same_piece f.piece q same)
-          (some_named f.piece (put_fragment f old.fragments) (put_names f old.fragments)))
+        (some_named f.piece (put_fragment f old.fragments) (put_names f old.fragments)))
 
     pub IsKept-put : IsKept is_ready piece_of byte_count (kept fs laid)
     IsKept-put = IsKept-laid byte_count is_ready piece_of entered laid fs have counted laid_numbers thins

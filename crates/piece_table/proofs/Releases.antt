@@ -104,7 +104,7 @@ module _ {H : Type 0} where
     ComesOut-then a b c before mid after first second earlier later = (
       first.0 ++ second.0,
       second.1 ∙ ap (λ us. us ++ second.0) first.1 ∙ append_assoc before first.0 second.0,
-      AreOut-then a b c first.0 second.0 first.2 second.2 earlier later
+      AreOut-then a b c first.0 second.0 first.2 second.2 earlier later,
     )
 
   -- one fragment of a piece goes out
@@ -152,9 +152,13 @@ module _ {H : Type 0} where
       -- the hold comes out
       pub ComesOut-one : (h : H) → (number_of old p == 1) ≡ true → hold_of old p ≡ Some h → piece h ≡ p → (dead : List H)
           → ComesOut piece (hold_of old) (hold_of new) dead (dead ++ h ∷ [])
-      ComesOut-one h last is of_p dead = (h ∷ [], refl, AreOut-one piece (hold_of old) (hold_of new) p h is of_p
-          (holds p ∙ cond-true _ None (hold_of old p) (ap (λ b. b && number_of old p == 1) (piece_eq-itself p) ∙ last))
-          (λ q other. holds q ∙ cond-false _ None (hold_of old q) (ap (λ b. b && number_of old p == 1) other)))
+      ComesOut-one h last is of_p dead = (
+        h ∷ [],
+        refl,
+        AreOut-one piece (hold_of old) (hold_of new) p h is of_p
+            (holds p ∙ cond-true _ None (hold_of old p) (ap (λ b. b && number_of old p == 1) (piece_eq-itself p) ∙ last))
+            (λ q other. holds q ∙ cond-false _ None (hold_of old q) (ap (λ b. b && number_of old p == 1) other)),
+      )
 
   -- one more fragment names a piece
   pub one_more : (old new : Pieces H) (p : Piece)

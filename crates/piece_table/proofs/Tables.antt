@@ -1,7 +1,8 @@
 -- What a table has of each piece once it has something else of one.
 use Rattle.fs_types.proofs.Common.{◌≡◌, ℕ, ◌<◌, Bool, true, false, cond, is_some, ◌&&◌, List, [], ◌∷◌, length, Option, Some, None, IsTrue, refl, sym, ap, ◌∙◌, subst}
 use Rattle.fs_types.proofs.Common.{Decides-eqb, arith, none-some, same_Some}
-use Rattle.std.specs.Map.{lookup}
+use Rattle.std.specs.List.{IsDistinct}
+use Rattle.std.specs.Map.{keys_of, lookup}
 use Rattle.std.proofs.lemmas.Bool.Decides.{Decides-and}
 use Rattle.fs_types.specs.Fragments.{piece_eq}
 use Rattle.fs_types.specs.Pieces.{Piece}
@@ -58,10 +59,11 @@ module _ {H : Type 0} (es new : List (Piece × Counted H)) (p : Piece) (w : Opti
       by true e = same ∙ ap (λ (r : Piece). hold_in (lookup (piece_eq r) es)) (same_piece p q e)
       by false e = refl
 
-  pub AreCounted-after : (is_ready : H → Bool) (piece_of : H → Piece) → AreCounted is_ready piece_of es
+  pub AreCounted-after : (is_ready : H → Bool) (piece_of : H → Piece) → AreCounted is_ready piece_of es → IsDistinct piece_eq (keys_of new)
       → ((c : Counted H) → w ≡ Some c → (0 < c.number) × IsTrue (is_ready c.hold) × (piece_of c.hold ≡ p))
       → AreCounted is_ready piece_of new
-  AreCounted-after is_ready piece_of all one = record {
+  AreCounted-after is_ready piece_of all apart one = record {
+    apart = apart;
     number = λ q c is. (by q c (piece_eq p q) refl (sym (updates q) ∙ is)).0;
     ready = λ q c is. (by q c (piece_eq p q) refl (sym (updates q) ∙ is)).1;
     piece = λ q c is. (by q c (piece_eq p q) refl (sym (updates q) ∙ is)).2;

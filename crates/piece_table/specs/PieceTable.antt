@@ -1,7 +1,8 @@
 -- The pieces of a table: how many fragments name each, and its hold.
 use Rattle.std.specs.Prelude.{◌≡◌, ℕ, ◌<◌, Bool, IsTrue, List, Option, Some, option_map}
 use Rattle.std.specs.Option.{option_map_or}
-use Rattle.std.specs.Map.{lookup}
+use Rattle.std.specs.List.{IsDistinct}
+use Rattle.std.specs.Map.{keys_of, lookup}
 use Rattle.fs_types.specs.Fragments.{piece_eq}
 use Rattle.fs_types.specs.Pieces.{Piece}
 use Rattle.piece_table.specs.declared.piece_table.Counted.{Counted}
@@ -32,8 +33,9 @@ module _ {H : Type 0} where
   abbrev pub hold_of : Pieces H → Piece → Option H
   hold_of t q = hold_in (counted_of t q)
 
-  -- each piece that is there is named by some fragment, and its hold is ready and of that piece
+  -- no piece is there twice; each that is there is named by some fragment, and its hold is ready and of that piece
   pub record AreCounted (is_ready : H → Bool) (piece_of : H → Piece) (entries : List (Piece × Counted H)) : Type 0 where
+    pub apart : IsDistinct piece_eq (keys_of entries)
     pub number : (q : Piece) (c : Counted H) → lookup (piece_eq q) entries ≡ Some c → 0 < c.number
     pub ready : (q : Piece) (c : Counted H) → lookup (piece_eq q) entries ≡ Some c → IsTrue (is_ready c.hold)
     pub piece : (q : Piece) (c : Counted H) → lookup (piece_eq q) entries ≡ Some c → piece_of c.hold ≡ q

@@ -1,9 +1,11 @@
 //! Pieces that fragments name: how many fragments name each, and its hold.
 
-ghost use Rattle.std.specs.Prelude.{◌≡◌, ◌==◌, ◌&&◌, ◌+◌, ◌-◌, ◌<◌, ◌≤◌, ◌^◌, length, is_some, if◌then◌else◌, option_copied, IsTrue, IsOk, IfErr, IfSome, OnOk, OnErr};
+ghost use Rattle.std.specs.Prelude.{◌≡◌, ◌==◌, ◌&&◌, ◌+◌, ◌-◌, ◌<◌, ◌≤◌, ◌^◌, [], length, vec_len, vec_capacity, is_some, if◌then◌else◌, option_copied, IsSome, IsTrue, IsOk, IfErr, IfSome, OnOk, OnErr};
 ghost use Rattle.fs_types.specs.Fragments.{piece_eq};
 ghost use Rattle.fs_types.specs.Pieces.{Piece};
+ghost use Rattle.std.specs.Option.{option_or};
 ghost use Rattle.piece_table.specs.PieceTable.{AreCounted, number_of, hold_of};
+ghost use Rattle.piece_table.specs.Thinning.{ComesOut};
 
 use fs_types::{Hold, PieceId, Want};
 use indexmap::IndexMap;
@@ -136,5 +138,36 @@ impl<H: Hold + Drop> PieceTable<H> {
     {
         self.pieces.reserve(n)?;
         Ok(())
+    }
+
+    /// Moves the pieces of another table into this one. After want of memory none has moved.
+    pub fn append(&mut self, other: &mut PieceTable<H>) -> Result<(), Want>
+        requires { (q : Piece)
+            → IsSome (hold_of other.old q) → hold_of self.old q ≡ None }
+        ensures numbers { OnOk result ((q : Piece)
+            → number_of self.new q ≡ number_of self.old q + number_of other.old q) }
+        ensures holds { OnOk result ((q : Piece)
+            → hold_of self.new q ≡ option_or (hold_of other.old q) (hold_of self.old q)) }
+        ensures len { OnOk result (length self.new.entries
+            ≤ length self.old.entries + length other.old.entries) }
+        ensures emptied { OnOk result (other.new.entries ≡ []) }
+        ensures same { OnErr result (self.new.entries ≡ self.old.entries) }
+        ensures same_other { OnErr result (other.new.entries ≡ other.old.entries) }
+        ensures counted { AreCounted H.is_ready H.piece self.new.entries }
+    {
+        self.pieces.append(&mut other.pieces)?;
+        Ok(())
+    }
+
+    /// Moves all holds out, into a list with room for them. It takes no memory.
+    pub fn take_all(&mut self, out: &mut Vec<H>)
+        requires { length self.old.entries + vec_len out.old ≤ vec_capacity out.old }
+        ensures emptied { self.new.entries ≡ [] }
+        ensures out { ComesOut H.piece (hold_of self.old) (hold_of self.new)
+            out.old.items out.new.items }
+    {
+        while let Some((_, counted)) = self.pieces.pop() {
+            out.push_reserved(counted.hold);
+        }
     }
 }

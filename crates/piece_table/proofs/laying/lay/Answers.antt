@@ -11,8 +11,13 @@ pub release_covered-requires-clause-there : goal.release_covered-requires-clause
 release_covered-requires-clause-there g c q =
     let fs = g.S.Spans.fragments c.args.spans.now in
     let f : Fragment = c.args.f in
-    omega (arith, count-filter-le q (is_covered c.f.inside.at (c.f.inside.at + c.f.inside.len)) fs, c.requires.there q,
-      count-cons q f fs, c.count_reaching.ensures.numbers q)
+    omega (
+      arith,
+      count-filter-le q (is_covered c.f.inside.at (c.f.inside.at + c.f.inside.len)) fs,
+      c.requires.there q,
+      count-cons q f fs,
+      c.count_reaching.ensures.numbers q,
+    )
 
 pub returns-clause-numbers : goal.returns-clause-numbers
 returns-clause-numbers g c q =

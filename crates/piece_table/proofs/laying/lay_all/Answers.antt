@@ -27,8 +27,13 @@ loop-f-init g c =
 pub lay-requires-clause-few : goal.lay-requires-clause-few
 lay-requires-clause-few g c q =
     let over = g.S.Spans.fragments c.args.over.now in
-    omega (arith, c.loop-f.invariant.numbers q, few_named q _ (g.met.S.Spans.are_spans c.loop-f.spans),
-      few_named q over (g.met.S.Spans.are_spans c.args.over.now), count-filter-le q (is_covered c.loop-f.place LONGEST_FILE) over)
+    omega (
+      arith,
+      c.loop-f.invariant.numbers q,
+      few_named q _ (g.met.S.Spans.are_spans c.loop-f.spans),
+      few_named q over (g.met.S.Spans.are_spans c.args.over.now),
+      count-filter-le q (is_covered c.loop-f.place LONGEST_FILE) over,
+    )
 
 pub loop-f-preserved : goal.loop-f-preserved
 loop-f-preserved g c =
@@ -38,14 +43,21 @@ loop-f-preserved g c =
     let rest = covered (end_of f) LONGEST_FILE over in
     let next : covered c.loop-f.place LONGEST_FILE over ≡ f ∷ rest = c.in-Some.ensures.next in
     let is : covered (c.f.inside.at + c.f.inside.len) LONGEST_FILE over ≡ rest =
-      ap (λ (h : Fragment). covered (end_of h) LONGEST_FILE over) c.f.view_is in
+    ap (λ (h : Fragment). covered (end_of h) LONGEST_FILE over) c.f.view_is in
     let so_far = c.loop-f.invariant in
     let laid = c.lay.ensures in
     record {
       fragments = ap (λ us. put_fragments us (g.S.Spans.fragments c.lay.new.spans)) is
           ∙ ap (put_fragments rest) laid.fragments ∙ ap (λ us. put_fragments us now) (sym next) ∙ so_far.fragments;
-      numbers = λ q. omega (arith, so_far.numbers q, laid.numbers q, count-cons q f now, count-cons q f rest,
-          ap (fragment_count q) next, ap (fragment_count q) is);
+      numbers = λ q. omega (
+        arith,
+        so_far.numbers q,
+        laid.numbers q,
+        count-cons q f now,
+        count-cons q f rest,
+        ap (fragment_count q) next,
+        ap (fragment_count q) is,
+      );
       spare = omega (arith, so_far.spare, laid.spare, ap length next, ap length is);
       room = omega (arith, so_far.room, laid.len, laid.capacity);
       thins = Thins-then _ _ _ so_far.thins laid.thins;

@@ -13,10 +13,16 @@ release_one-requires-clause-there g c =
     let fs = g.S.Spans.fragments c.args.spans.now in
     let f : Fragment = record { at = c.g.inside.at; len = c.g.inside.len; piece = c.g.inside.piece; from = c.g.inside.from } in
     let next : covered c.loop-g.place c.args.end fs ≡ f ∷ covered (end_of f) c.args.end fs =
-      subst (λ (h : Fragment). covered c.loop-g.place c.args.end fs ≡ h ∷ covered (end_of h) c.args.end fs) (sym c.g.view_is)
-      c.in-Some.ensures.next in
-    omega (arith, c.loop-g.invariant.numbers f.piece, c.requires.there f.piece, ap (fragment_count f.piece) next,
-      count-cons f.piece f (covered (end_of f) c.args.end fs), naming-itself f)
+    subst (λ (h : Fragment). covered c.loop-g.place c.args.end fs ≡ h ∷ covered (end_of h) c.args.end fs) (sym c.g.view_is)
+    c.in-Some.ensures.next in
+    omega (
+      arith,
+      c.loop-g.invariant.numbers f.piece,
+      c.requires.there f.piece,
+      ap (fragment_count f.piece) next,
+      count-cons f.piece f (covered (end_of f) c.args.end fs),
+      naming-itself f,
+    )
 
 pub release_one-requires-clause-room : goal.release_one-requires-clause-room
 release_one-requires-clause-room g c =
@@ -28,8 +34,8 @@ loop-g-preserved g c =
     let fs = g.S.Spans.fragments c.args.spans.now in
     let f : Fragment = record { at = c.g.inside.at; len = c.g.inside.len; piece = c.g.inside.piece; from = c.g.inside.from } in
     let next : covered c.loop-g.place c.args.end fs ≡ f ∷ covered (end_of f) c.args.end fs =
-      subst (λ (h : Fragment). covered c.loop-g.place c.args.end fs ≡ h ∷ covered (end_of h) c.args.end fs) (sym c.g.view_is)
-      c.in-Some.ensures.next in
+    subst (λ (h : Fragment). covered c.loop-g.place c.args.end fs ≡ h ∷ covered (end_of h) c.args.end fs) (sym c.g.view_is)
+    c.in-Some.ensures.next in
     let so_far = c.loop-g.invariant in
     let one = c.release_one.ensures in
     record {

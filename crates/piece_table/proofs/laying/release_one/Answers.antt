@@ -14,8 +14,8 @@ returns-in-Some-clause-out g c =
     let last = sym c.in-Some.ensures.last in
     rw c.push_reserved.ensures.items
     (ComesOut-one c.args.pieces.now c.less.new.self c.args.p c.requires.there c.less.ensures.numbers c.less.ensures.holds
-      g.H.Hold.piece c.in-Some.hold last (sym (c.in-Some.ensures.out ∙ cond-true _ (hold_of c.args.pieces.now c.args.p) None last))
-      c.in-Some.ensures.piece c.args.dead.now.items)
+    g.H.Hold.piece c.in-Some.hold last (sym (c.in-Some.ensures.out ∙ cond-true _ (hold_of c.args.pieces.now c.args.p) None last))
+    c.in-Some.ensures.piece c.args.dead.now.items)
 
 pub returns-in_default-clause-thins : goal.returns-in_default-clause-thins
 returns-in_default-clause-thins g c =

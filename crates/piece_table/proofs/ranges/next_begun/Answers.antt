@@ -14,7 +14,7 @@ returns-in_default-clause-next g c =
 pub returns-then-at-g-clause-next : goal.returns-then-at-g-clause-next
 returns-then-at-g-clause-next g c =
     sym (found_begun c.args.at _ c.in-Some.g (g.met.S.Spans.are_spans c.args.spans.now) (sym c.next.ensures ∙ c.in-Some.is)
-      (omega (arith, ap (λ (f : Fragment). f.at) c.g.view_is)))
+    (omega (arith, ap (λ (f : Fragment). f.at) c.g.view_is)))
 
 pub returns-then-at-g-clause-span : goal.returns-then-at-g-clause-span
 returns-then-at-g-clause-span g c =
@@ -23,7 +23,7 @@ returns-then-at-g-clause-span g c =
 pub overflow_add-g-inside : goal.overflow_add-g-inside
 overflow_add-g-inside g c =
     let span : IsSpan c.in-Some.g =
-      IsSpan-at _ _ c.in-Some.g (g.met.S.Spans.are_spans c.args.spans.now).each (sym c.next.ensures ∙ c.in-Some.is) in
+    IsSpan-at _ _ c.in-Some.g (g.met.S.Spans.are_spans c.args.spans.now).each (sym c.next.ensures ∙ c.in-Some.is) in
     let in_file = span.in_file in
     omega (arith, ap end_of c.g.view_is)
 
@@ -31,7 +31,7 @@ pub returns-clause-next : goal.returns-clause-next
 returns-clause-next g c =
     c.next-2.ensures ∙ ap (λ (f : Fragment). next_fragment (end_of f) (g.S.Spans.fragments c.args.spans.now)) c.g.view_is
     ∙ sym (found_behind c.args.at _ c.in-Some.g (g.met.S.Spans.are_spans c.args.spans.now) (sym c.next.ensures ∙ c.in-Some.is)
-      (omega (arith, ap (λ (f : Fragment). f.at) c.g.view_is)))
+    (omega (arith, ap (λ (f : Fragment). f.at) c.g.view_is)))
 
 pub returns-clause-span : goal.returns-clause-span
 returns-clause-span g c =

@@ -22,7 +22,7 @@ invariant_of-self-2 g c =
     c.enter.new.self c.in_default.ensures.numbers c.in_default.ensures.holds c.in_default.ensures.counted c.lay.new.pieces _
     (c.lay.ensures.fragments ∙ ap (put_fragment c.args.f) same)
     (subst (λ us. (q : Piece) → number_of c.lay.new.pieces q + fragment_count q (c.args.f ∷ us)
-      ≡ number_of c.enter.new.self q + fragment_count q (g.S.Spans.fragments c.lay.new.spans)) same c.lay.ensures.numbers)
+    ≡ number_of c.enter.new.self q + fragment_count q (g.S.Spans.fragments c.lay.new.spans)) same c.lay.ensures.numbers)
     c.lay.ensures.thins
 
 pub returns-clause-are_held : goal.returns-clause-are_held
@@ -34,12 +34,12 @@ returns-clause-put g c =
     let same = c.in_ok-reserve-2.ensures.same in
     rw (← c.self.view_is)
     (Puts-laid g.H.Hold.is_ready g.H.Hold.piece g.H.Hold.bytes (kept fs c.self.inside.pieces)
-      c.args.f c.args.h c.self.invariant c.requires.span c.requires.piece c.requires.within (rw (← c.self.view_is) at c.requires.new_piece)
-      c.enter.new.self c.in_default.ensures.numbers c.in_default.ensures.holds c.in_default.ensures.counted c.lay.new.pieces _
-      (c.lay.ensures.fragments ∙ ap (put_fragment c.args.f) same)
-      (subst (λ us. (q : Piece) → number_of c.lay.new.pieces q + fragment_count q (c.args.f ∷ us)
-        ≡ number_of c.enter.new.self q + fragment_count q (g.S.Spans.fragments c.lay.new.spans)) same c.lay.ensures.numbers)
-      c.lay.ensures.thins)
+    c.args.f c.args.h c.self.invariant c.requires.span c.requires.piece c.requires.within (rw (← c.self.view_is) at c.requires.new_piece)
+    c.enter.new.self c.in_default.ensures.numbers c.in_default.ensures.holds c.in_default.ensures.counted c.lay.new.pieces _
+    (c.lay.ensures.fragments ∙ ap (put_fragment c.args.f) same)
+    (subst (λ us. (q : Piece) → number_of c.lay.new.pieces q + fragment_count q (c.args.f ∷ us)
+    ≡ number_of c.enter.new.self q + fragment_count q (g.S.Spans.fragments c.lay.new.spans)) same c.lay.ensures.numbers)
+    c.lay.ensures.thins)
 
 pub returns-clause-dead : goal.returns-clause-dead
 returns-clause-dead g c =
@@ -47,9 +47,9 @@ returns-clause-dead g c =
     let same = c.in_ok-reserve-2.ensures.same in
     rw (← c.self.view_is, ← c.in_ok-reserve.ensures.items)
     (HandsOver-put g.H.Hold.is_ready g.H.Hold.piece g.H.Hold.bytes (kept fs c.self.inside.pieces)
-      c.args.f c.args.h c.self.invariant c.requires.span c.requires.piece c.requires.within (rw (← c.self.view_is) at c.requires.new_piece)
-      c.enter.new.self c.in_default.ensures.numbers c.in_default.ensures.holds c.in_default.ensures.counted c.lay.new.pieces _
-      (c.lay.ensures.fragments ∙ ap (put_fragment c.args.f) same)
-      (subst (λ us. (q : Piece) → number_of c.lay.new.pieces q + fragment_count q (c.args.f ∷ us)
-        ≡ number_of c.enter.new.self q + fragment_count q (g.S.Spans.fragments c.lay.new.spans)) same c.lay.ensures.numbers)
-      c.lay.ensures.thins _ _ c.lay.ensures.out)
+    c.args.f c.args.h c.self.invariant c.requires.span c.requires.piece c.requires.within (rw (← c.self.view_is) at c.requires.new_piece)
+    c.enter.new.self c.in_default.ensures.numbers c.in_default.ensures.holds c.in_default.ensures.counted c.lay.new.pieces _
+    (c.lay.ensures.fragments ∙ ap (put_fragment c.args.f) same)
+    (subst (λ us. (q : Piece) → number_of c.lay.new.pieces q + fragment_count q (c.args.f ∷ us)
+    ≡ number_of c.enter.new.self q + fragment_count q (g.S.Spans.fragments c.lay.new.spans)) same c.lay.ensures.numbers)
+    c.lay.ensures.thins _ _ c.lay.ensures.out)

@@ -8,7 +8,7 @@ use Rattle.piece_table.proofs.piece_table.PieceTable.enter.Goals as goal
 pub invariant_of-self : goal.invariant_of-self
 invariant_of-self g c =
     AreCounted-after c.self.inside.pieces.entries c.insert.new.self.entries c.piece-piece.result _ c.in-Ok.ensures.updates.0
-    g.H.Hold.is_ready g.H.Hold.piece c.self.invariant
+    g.H.Hold.is_ready g.H.Hold.piece c.self.invariant c.in-Ok.ensures.unique
     (λ x is. let e = same_Some _ _ is in (
       subst (λ (y : Counted g.row.H.Denot). 0 < y.number) e (lit< tt),
       subst (λ (y : Counted g.row.H.Denot). IsTrue (g.H.Hold.is_ready y.hold)) e c.requires.ready,

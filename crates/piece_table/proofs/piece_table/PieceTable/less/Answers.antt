@@ -14,7 +14,7 @@ invariant_of-self-then-counted-gt0 g c =
     let w : Counted g.row.H.Denot = record { number = x.number - 1; hold = x.hold } in
     let value = c.in_ok-counted.ensures.value in
     AreCounted-after c.self.inside.pieces.entries _ c.args.p (Some w) ((c.get_mut.follows.holds w).3 (ap is_some (sym value))).0
-    g.H.Hold.is_ready g.H.Hold.piece c.self.invariant
+    g.H.Hold.is_ready g.H.Hold.piece c.self.invariant (c.get_mut.follows.holds w).4
     (λ y is. let e = same_Some _ _ is in (
       subst (λ (y : Counted g.row.H.Denot). 0 < y.number) e c.if-counted-gt0.true,
       subst (λ (y : Counted g.row.H.Denot). IsTrue (g.H.Hold.is_ready y.hold)) e (c.self.invariant.ready c.args.p x (sym value)),
@@ -50,7 +50,7 @@ invariant_of-self-2 g c =
     AreCounted-after c.self.inside.pieces.entries c.swap_remove.new.self.entries c.args.p None
     (updated_twice c.self.inside.pieces.entries _ _ c.args.p (Some w) None
     ((c.get_mut.follows.holds w).3 (ap is_some (sym value))).0 c.swap_remove.ensures.updates.0)
-    g.H.Hold.is_ready g.H.Hold.piece c.self.invariant (λ y is. absurd cc)
+    g.H.Hold.is_ready g.H.Hold.piece c.self.invariant c.swap_remove.ensures.unique (λ y is. absurd cc)
 
 pub returns-clause-numbers : goal.returns-clause-numbers
 returns-clause-numbers g c q =

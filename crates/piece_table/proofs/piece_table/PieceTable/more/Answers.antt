@@ -11,7 +11,7 @@ invariant_of-self-2 g c =
     let w : Counted g.row.H.Denot = record { number = x.number + 1; hold = x.hold } in
     let value = c.in-Some.ensures.value in
     AreCounted-after c.self.inside.pieces.entries _ c.args.p (Some w) ((c.get_mut.follows.holds w).3 (ap is_some (sym value))).0
-    g.H.Hold.is_ready g.H.Hold.piece c.self.invariant
+    g.H.Hold.is_ready g.H.Hold.piece c.self.invariant (c.get_mut.follows.holds w).4
     (λ y is. let e = same_Some _ _ is in (
       subst (λ (y : Counted g.row.H.Denot). 0 < y.number) e (omega arith),
       subst (λ (y : Counted g.row.H.Denot). IsTrue (g.H.Hold.is_ready y.hold)) e (c.self.invariant.ready c.args.p x (sym value)),
