@@ -1,5 +1,5 @@
 -- How many fragments name a piece, in what a range leaves of them.
-use Rattle.fs_types.proofs.Common.{◌≡◌, ℕ, ◌+◌, ◌<◌, ◌≤◌, Bool, true, false, cond, leb, ltb, List, [], ◌∷◌, ◌++◌, All, All-head, All-tail, filter, flat_map}
+use Rattle.fs_types.proofs.Common.{◌≡◌, ℕ, ◌+◌, ◌<◌, ◌≤◌, Bool, true, false, cond, ltb, List, [], ◌∷◌, ◌++◌, All, All-head, All-tail, filter, flat_map}
 use Rattle.fs_types.proofs.Common.{arith, nat_tests, count_by-le-length, ◌||◌, lt-ltb, ltb-true, ltb-false, get_or, cases_Bool, inl, inr, ◌⊎◌, cond_both, cond-true, cond-false, sum_by-cons, refl, ap, sym, ◌∙◌}
 use Rattle.std.proofs.Common.{⊎_elim}
 use Rattle.std.proofs.lemmas.List.Folds.{list_any_at}

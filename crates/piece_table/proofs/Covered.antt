@@ -1,7 +1,7 @@
 -- The fragments of a range: which one is found from a place on, and what lies whole behind it.
-use Rattle.std.specs.Prelude.{AllPairs, find}
-use Rattle.fs_types.proofs.Common.{◌≡◌, ℕ, ◌+◌, ◌<◌, ◌≤◌, List, [], ◌∷◌, All, All-head, All-tail, arith, refl, ap, sym, ◌∙◌, subst, filter}
-use Rattle.fs_types.proofs.Common.{Option, Some, None, IfSome, nat_tests, cond_both, ltb-true, ltb-false, leb-true, length, same_Some, Bool, true, false, cond, All-weaker, lit≤, count_by-le-length}
+use Rattle.std.specs.Prelude.{find}
+use Rattle.fs_types.proofs.Common.{◌≡◌, ℕ, ◌+◌, ◌<◌, ◌≤◌, List, [], ◌∷◌, All, All-head, All-tail, arith, refl, ap, sym, ◌∙◌, subst}
+use Rattle.fs_types.proofs.Common.{Option, Some, None, IfSome, nat_tests, cond_both, ltb-true, ltb-false, leb-true, length, same_Some, Bool, true, false, true≢false, false≢true, is_some, not, IsTrue, cond, All-weaker, lit≤, count_by-le-length}
 use Rattle.std.proofs.lemmas.List.Sums.{length-filter}
 use Rattle.std.proofs.lemmas.Bool.{leb-false}
 use Rattle.fs_types.specs.Fragments.{end_of}
@@ -245,3 +245,21 @@ covered_all (f ∷ fs) each =
     let in_file : end_of f ≤ LONGEST_FILE = (All-head IsSpan f fs each).in_file in
     let rest = covered_all fs (All-tail IsSpan f fs each) in
     grind (arith, nat_tests)
+
+-- from the begin on there is a next fragment unless there is none
+pub next_at_begin : (fs : List Fragment) → All IsSpan fs → next_fragment 0 fs ≡ None → fs ≡ []
+next_at_begin [] each none = refl
+next_at_begin (f ∷ fs) each none =
+    let some : 0 < f.len = (All-head IsSpan f fs each).has_bytes in
+    cond_both (ends_after 0 f) (Some f) (next_fragment 0 fs) (λ o. o ≡ None → (f ∷ fs) ≡ [])
+    (λ _ found. absurd cc) (λ ended _. let end = ltb-false 0 (end_of f) ended in absurd (omega arith)) none
+
+pub empty_by_next : (fs : List Fragment) → All IsSpan fs → (found : Option Fragment) (empty : Bool) → found ≡ next_fragment 0 fs
+    → is_some found ≡ not empty → (IsTrue empty → fs ≡ []) × (fs ≡ [] → IsTrue empty)
+empty_by_next fs each found true is test = (λ _. next_at_begin fs each (sym is ∙ unfound found test), λ _. refl)
+  where
+    unfound : (o : Option Fragment) → is_some o ≡ false → o ≡ None
+    unfound None none = refl
+    unfound (Some f) none = absurd (true≢false none)
+empty_by_next fs each found false is test =
+    (λ no. absurd (false≢true no), λ none. absurd (true≢false (sym test ∙ ap is_some (is ∙ ap (next_fragment 0) none))))

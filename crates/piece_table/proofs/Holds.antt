@@ -1,14 +1,14 @@
 -- Fragments with a hold for each piece that they name: what a put keeps, and what is left once the others are out.
-use Rattle.fs_types.proofs.Common.{◌≡◌, ℕ, ◌+◌, ◌<◌, ◌≤◌, Bool, true, false, cond, ◌==◌, List, [], ◌∷◌, ◌++◌, Option, Some, None, is_some, IsTrue}
-use Rattle.fs_types.proofs.Common.{All, All-append, All-cons, All-weaker, All-head, All-tail, flat_map, refl, sym, ap, ◌∙◌, subst, arith}
-use Rattle.fs_types.proofs.Common.{cases_Bool, cases_lt, get_or, inl, inr, eq-eqb, ne_eqb, cond-true, cond-false, true≢false, none-some}
+use Rattle.fs_types.proofs.Common.{◌≡◌, ℕ, ◌<◌, Bool, true, false, cond, List, [], ◌∷◌, Option, None, is_some}
+use Rattle.fs_types.proofs.Common.{All, All-append, All-cons, All-weaker, All-head, All-tail, flat_map, sym, ap, ◌∙◌, arith}
+use Rattle.fs_types.proofs.Common.{cases_Bool, cases_lt, get_or, inl, inr, eq-eqb, ne_eqb, cond-true, cond-false}
 use Rattle.span_list.proofs.CallerLemmas.{AreSpans-put}
 use Rattle.span_list.proofs.PlainLists.{All-flat_map}
 use Rattle.span_list.proofs.Parts.{All-rest_before, All-rest_from}
-use Rattle.fs_types.specs.Fragments.{end_of, piece_eq, fragment_count}
+use Rattle.fs_types.specs.Fragments.{end_of, fragment_count}
 use Rattle.fs_types.specs.Pieces.{Piece, Fragment}
 use Rattle.span_list.specs.Spans.{IsSpan, AreSpans, rest_before, rest_from, put_fragment}
-use Rattle.piece_table.specs.HeldSpans.{AreGone, AreHeld, HandsOver, Held, IsKept, Kept, LiesIn, held, is_named, kept, put_fragments}
+use Rattle.piece_table.specs.HeldSpans.{HandsOver, IsKept, Kept, LiesIn, held, is_named, kept, put_fragments}
 use Rattle.piece_table.specs.PieceTable.{AreCounted, Pieces, number_of, hold_of}
 use Rattle.piece_table.specs.Thinning.{Thins, ComesOut}
 use Rattle.piece_table.proofs.Counts.{All-named, count-cons, head_named, named_by_put, named_none, named_some, naming_one, some_named}

@@ -1,7 +1,11 @@
-mod Tables
-mod Covered
-mod Counts
-mod Releases
-mod Holds
+pub mod CallerLemmas
+pub mod Tables
+pub mod Covered
+pub mod Counts
+pub mod Releases
+pub mod Moves
+pub mod Holds
+pub mod Places
 mod OnePut
-mod Moves
+mod AllPut
+mod Cases

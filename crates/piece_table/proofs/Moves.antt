@@ -1,5 +1,5 @@
 -- Pieces that move from one table into another, and holds that are taken out of one.
-use Rattle.fs_types.proofs.Common.{◌≡◌, ℕ, ◌+◌, ◌<◌, ◌≤◌, Bool, true, false, cond, List, [], ◌∷◌, ◌++◌, length, Option, Some, None, is_some, IsTrue}
+use Rattle.fs_types.proofs.Common.{◌≡◌, ◌+◌, ◌<◌, ◌≤◌, Bool, true, cond, List, [], ◌∷◌, ◌++◌, length, Option, Some, None, is_some, IsTrue}
 use Rattle.fs_types.proofs.Common.{refl, sym, ap, ◌∙◌, subst, arith, cases_Bool, inl, inr, cond_both, cond-true, cond-false, true≢false, none-some, IsDistinct-from_apart, slice_get, slice_get-get_or, length_push}
 use Rattle.std.specs.Cmp.{IsEquivalence}
 use Rattle.std.specs.List.{IsDistinct}
@@ -13,7 +13,7 @@ use Rattle.fs_types.specs.Fragments.{piece_eq}
 use Rattle.fs_types.specs.Pieces.{Piece}
 use Rattle.piece_table.specs.declared.piece_table.Counted.{Counted}
 use Rattle.piece_table.specs.PieceTable.{AreCounted, number_in, hold_in}
-use Rattle.piece_table.specs.Thinning.{AreOut, ComesOut}
+use Rattle.piece_table.specs.Thinning.{AreOut}
 use Rattle.piece_table.proofs.Releases.{AreOut-one}
 use Rattle.piece_table.proofs.Tables.{AreCounted-after, hold_after, piece_eq-itself, piece_eq-sym, same_piece, unheld}
 

@@ -1,5 +1,5 @@
 -- A fragment of a new piece that was put with its hold.
-use Rattle.fs_types.proofs.Common.{◌≡◌, ℕ, ◌+◌, ◌<◌, ◌≤◌, ◌^◌, Bool, true, false, cond, List, ◌∷◌, Option, Some, None, is_some, refl, sym, ap, ◌∙◌, subst, arith}
+use Rattle.fs_types.proofs.Common.{◌≡◌, ℕ, ◌+◌, ◌<◌, ◌≤◌, ◌^◌, Bool, true, false, cond, List, ◌∷◌, Some, None, is_some, sym, ap, ◌∙◌, subst, arith}
 use Rattle.fs_types.proofs.Common.{cases_Bool, cases_lt, cond_both, inl, inr, cond-true, cond-false, true≢false, same_Some}
 use Rattle.fs_types.specs.Fragments.{piece_eq, fragment_count}
 use Rattle.fs_types.specs.Pieces.{Piece, Fragment}

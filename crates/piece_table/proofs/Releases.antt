@@ -1,7 +1,6 @@
 -- Holds that come out of a table of pieces, one after another.
-use Rattle.std.specs.Prelude.{AllPairs}
 use Rattle.fs_types.proofs.Common.{◌≡◌, ℕ, ◌+◌, ◌<◌, ◌-◌, Bool, true, false, cond, ◌&&◌, ◌==◌, List, [], ◌∷◌, ◌++◌, Option, Some, None, All, All-nil, All-cons, All-append, All-weaker}
-use Rattle.fs_types.proofs.Common.{Contains, Contains-append_left, Contains-append_right, Contains-push, refl, sym, ap, ◌∙◌, subst, arith, nat_tests, same_Some, append-nil, append_assoc, none-some}
+use Rattle.fs_types.proofs.Common.{Contains, Contains-append_left, Contains-append_right, Contains-push, refl, sym, ap, ◌∙◌, subst, arith, same_Some, append-nil, append_assoc, none-some}
 use Rattle.fs_types.proofs.Common.{cases_Bool, inl, inr, eqb-true, eq-eqb, ne_eqb, cond-true, cond-false, true≢false}
 use Rattle.span_list.proofs.PlainLists.{AllPairs-nil, AllPairs-one, AllPairs-append}
 use Rattle.fs_types.specs.Fragments.{piece_eq}

@@ -1,6 +1,6 @@
 //! Fragments of a file with the holds of the pieces that they name.
 
-ghost use Rattle.std.specs.Prelude.{◌≡◌, ◌≤◌, ◌+◌, [], IsTrue, ◌↔◌, option_copied, OnOk, OnErr};
+ghost use Rattle.std.specs.Prelude.{◌≡◌, ◌≤◌, ◌+◌, [], IsSome, IsTrue, ◌↔◌, option_copied, OnOk, OnErr};
 ghost use Rattle.fs_types.specs.Pieces.{Piece};
 ghost use Rattle.span_list.specs.Spans.{IsSpan, next_fragment};
 ghost use Rattle.piece_table.specs.HeldSpans.{AreHeld, HandsOver, Puts, PutsAll, held};
@@ -89,6 +89,47 @@ impl<H: Hold + Drop, S: Spans> HeldSpans<H, S> {
             return Err(want);
         }
         lay(&mut self.spans, &mut self.pieces, f, dead);
+        Ok(())
+    }
+
+    /// Puts all fragments of another over these, in order, with their holds, and leaves the other
+    /// empty. No piece of the other is here. The holds of pieces that no fragment names any more
+    /// are pushed to `dead`. After want of memory nothing has changed.
+    pub fn put_all(&mut self, over: &mut HeldSpans<H, S>, dead: &mut Vec<H>) -> Result<(), Want>
+        requires { (q : Piece)
+            → IsSome ((held over.old).hold_of q) → (held self.old).hold_of q ≡ None }
+        ensures put { OnOk result (PutsAll (held over.old) (held self.old) (held self.new)) }
+        ensures dead { OnOk result (HandsOver H.piece (held self.old) (held self.new)
+            dead.old.items dead.new.items) }
+        ensures emptied { OnOk result ((held over.new).fragments ≡ []) }
+        ensures same { OnErr result (held self.new ≡ held self.old) }
+        ensures same_over { OnErr result (held over.new ≡ held over.old) }
+        ensures same_dead { OnErr result (dead.new.items ≡ dead.old.items) }
+        ensures are_held { AreHeld H.is_ready H.piece H.bytes (held self.new) }
+        ensures over_held { AreHeld H.is_ready H.piece H.bytes (held over.new) }
+    {
+        let count = count_covered(&over.spans, 0, LONGEST_FILE);
+        self.spans.reserve(2 * count)?;
+        dead.reserve(self.pieces.len() + over.pieces.len())?;
+        self.pieces.append(&mut over.pieces)?;
+        lay_all(&mut self.spans, &mut self.pieces, &over.spans, dead);
+        over.spans.cut(0);
+        Ok(())
+    }
+
+    /// Drops all fragments. All holds are pushed to `dead`. After want of memory nothing has
+    /// changed.
+    pub fn clear(&mut self, dead: &mut Vec<H>) -> Result<(), Want>
+        ensures fragments { OnOk result ((held self.new).fragments ≡ []) }
+        ensures dead { OnOk result (HandsOver H.piece (held self.old) (held self.new)
+            dead.old.items dead.new.items) }
+        ensures same { OnErr result (held self.new ≡ held self.old) }
+        ensures same_dead { OnErr result (dead.new.items ≡ dead.old.items) }
+        ensures are_held { AreHeld H.is_ready H.piece H.bytes (held self.new) }
+    {
+        dead.reserve(self.pieces.len())?;
+        self.pieces.take_all(dead);
+        self.spans.cut(0);
         Ok(())
     }
 }

@@ -1,7 +1,6 @@
-use Rattle.fs_types.proofs.Common.{◌≡◌, ◌+◌, ◌<◌, ◌≤◌, [], ◌∷◌, ap, sym, subst, arith}
+use Rattle.fs_types.proofs.Common.{◌≡◌, [], ◌∷◌, ap, sym, subst, arith}
 use Rattle.fs_types.specs.Fragments.{fragment_count}
-use Rattle.fs_types.specs.Pieces.{Fragment, Piece}
-use Rattle.piece_table.specs.PieceTable.{number_of}
+use Rattle.fs_types.specs.Pieces.{Fragment}
 use Rattle.piece_table.specs.Ranges.{reaching, reaches_past}
 use Rattle.piece_table.proofs.Counts.{count-one, naming-itself, count-filter-le}
 use Rattle.piece_table.proofs.Releases.{one_more}

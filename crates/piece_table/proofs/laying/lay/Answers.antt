@@ -1,9 +1,9 @@
-use Rattle.fs_types.proofs.Common.{◌≡◌, ℕ, ◌+◌, ◌<◌, ◌≤◌, ◌∷◌, ap, sym, ◌∙◌, subst, arith, rules, length}
+use Rattle.fs_types.proofs.Common.{◌≡◌, ℕ, ◌+◌, ap, sym, ◌∙◌, arith, rules}
 use Rattle.fs_types.specs.Fragments.{end_of, fragment_count}
-use Rattle.fs_types.specs.Pieces.{Fragment, Piece}
-use Rattle.span_list.specs.Spans.{IsSpan, AreSpans, put_fragment}
-use Rattle.piece_table.specs.PieceTable.{number_of, hold_of}
-use Rattle.piece_table.specs.Ranges.{covered, is_covered, reaching, reaches_past}
+use Rattle.fs_types.specs.Pieces.{Fragment}
+use Rattle.span_list.specs.Spans.{put_fragment}
+use Rattle.piece_table.specs.PieceTable.{number_of}
+use Rattle.piece_table.specs.Ranges.{covered, is_covered, reaching}
 use Rattle.piece_table.proofs.Counts.{count-cons, count-filter-le, count-laid}
 use Rattle.piece_table.proofs.laying.lay.Goals as goal
 

@@ -1,10 +1,8 @@
-use Rattle.fs_types.proofs.Common.{◌≡◌, ◌+◌, ◌*◌, ◌<◌, ◌≤◌, ◌∷◌, List, ap, sym, ◌∙◌, subst, arith, length, refl}
+use Rattle.fs_types.proofs.Common.{◌≡◌, ◌+◌, ◌∷◌, ap, sym, ◌∙◌, arith, length, refl}
 use Rattle.fs_types.specs.Fragments.{end_of, fragment_count}
-use Rattle.fs_types.specs.Pieces.{Fragment, Piece}
+use Rattle.fs_types.specs.Pieces.{Fragment}
 use Rattle.fs_types.specs.declared.limits.TheConstants.{LONGEST_FILE}
-use Rattle.span_list.specs.Spans.{AreSpans, put_fragment}
 use Rattle.piece_table.specs.HeldSpans.{put_fragments}
-use Rattle.piece_table.specs.PieceTable.{number_of, hold_of}
 use Rattle.piece_table.specs.Ranges.{covered, is_covered}
 use Rattle.piece_table.proofs.Counts.{count-cons, count-filter-le, few_named}
 use Rattle.piece_table.proofs.Covered.{covered_all}

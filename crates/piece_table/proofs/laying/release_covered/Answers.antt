@@ -1,11 +1,10 @@
-use Rattle.fs_types.proofs.Common.{◌≡◌, ◌+◌, ◌<◌, ◌≤◌, ◌∷◌, ap, sym, subst, arith, length, min}
+use Rattle.fs_types.proofs.Common.{◌≡◌, ◌∷◌, ap, sym, subst, arith, length}
 use Rattle.fs_types.specs.Fragments.{end_of, fragment_count}
-use Rattle.fs_types.specs.Pieces.{Fragment, Piece}
-use Rattle.piece_table.specs.PieceTable.{number_of, hold_of}
+use Rattle.fs_types.specs.Pieces.{Fragment}
 use Rattle.piece_table.specs.Ranges.{covered}
 use Rattle.piece_table.proofs.Counts.{count-cons, naming-itself}
 use Rattle.piece_table.proofs.Tables.{some_entries}
-use Rattle.piece_table.proofs.Releases.{Thins-itself, Thins-then, ComesOut-none, ComesOut-then, held_before, unheld_after, one_less}
+use Rattle.piece_table.proofs.Releases.{Thins-then, ComesOut-then, held_before, unheld_after}
 use Rattle.piece_table.proofs.laying.release_covered.Goals as goal
 
 pub release_one-requires-clause-there : goal.release_one-requires-clause-there

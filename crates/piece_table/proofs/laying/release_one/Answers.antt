@@ -1,4 +1,4 @@
-use Rattle.fs_types.proofs.Common.{◌≡◌, sym, ◌∙◌, ◌++◌, None, cond-true}
+use Rattle.fs_types.proofs.Common.{sym, ◌∙◌, None, cond-true}
 use Rattle.piece_table.specs.PieceTable.{hold_of}
 use Rattle.piece_table.proofs.Tables.{unnumbered}
 use Rattle.piece_table.proofs.Releases.{Thins-one, one_less, ComesOut-kept, ComesOut-one}

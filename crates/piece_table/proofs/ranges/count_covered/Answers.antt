@@ -1,4 +1,4 @@
-use Rattle.fs_types.proofs.Common.{◌≡◌, ◌+◌, ◌∙◌, ◌∷◌, List, ap, sym, arith, length}
+use Rattle.fs_types.proofs.Common.{ap, arith, length}
 use Rattle.fs_types.specs.Fragments.{end_of}
 use Rattle.fs_types.specs.Pieces.{Fragment}
 use Rattle.piece_table.specs.Ranges.{covered}

@@ -1,9 +1,7 @@
-use Rattle.std.specs.Prelude.{find}
-use Rattle.fs_types.proofs.Common.{◌≡◌, ◌+◌, ◌<◌, ◌≤◌, Some, None, IfSome, sym, ap, ◌∙◌, subst, arith}
+use Rattle.fs_types.proofs.Common.{IfSome, sym, ap, ◌∙◌, subst, arith}
 use Rattle.fs_types.specs.Fragments.{end_of}
 use Rattle.fs_types.specs.Pieces.{Fragment}
-use Rattle.fs_types.specs.declared.limits.TheConstants.{LONGEST_FILE}
-use Rattle.span_list.specs.Spans.{IsSpan, AreSpans, next_fragment}
+use Rattle.span_list.specs.Spans.{IsSpan, next_fragment}
 use Rattle.piece_table.proofs.Covered.{none_begun, found_begun, found_behind, IsSpan-found, IsSpan-at}
 use Rattle.piece_table.proofs.ranges.next_begun.Goals as goal
 

@@ -1,7 +1,5 @@
-use Rattle.fs_types.proofs.Common.{◌≡◌, ◌+◌, ◌<◌, ◌≤◌, Some, None, IfSome, sym, ap, ◌∙◌, subst, arith}
+use Rattle.fs_types.proofs.Common.{sym, ap, ◌∙◌, arith}
 use Rattle.fs_types.specs.Fragments.{end_of}
-use Rattle.fs_types.specs.Pieces.{Fragment}
-use Rattle.span_list.specs.Spans.{IsSpan, AreSpans}
 use Rattle.piece_table.proofs.Covered.{none_covered, covered_next, covered_none}
 use Rattle.piece_table.proofs.ranges.next_covered.Goals as goal
 

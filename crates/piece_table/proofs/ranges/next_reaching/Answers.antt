@@ -1,7 +1,7 @@
-use Rattle.fs_types.proofs.Common.{◌≡◌, ◌+◌, ◌<◌, ◌≤◌, [], ◌∷◌, true, false, cond-true, cond-false, sym, ap, ◌∙◌, arith}
+use Rattle.fs_types.proofs.Common.{◌≡◌, false, cond-true, cond-false, sym, ap, ◌∙◌, arith}
 use Rattle.fs_types.specs.Fragments.{end_of}
 use Rattle.fs_types.specs.Pieces.{Fragment}
-use Rattle.span_list.specs.Spans.{IsSpan, AreSpans}
+use Rattle.span_list.specs.Spans.{IsSpan}
 use Rattle.piece_table.specs.Ranges.{reaches_past}
 use Rattle.piece_table.proofs.Covered.{IsSpan-at, reaching_next, reaching_none, begun_within, ended_within, reaches}
 use Rattle.piece_table.proofs.ranges.next_reaching.Goals.{then-at-g-via-then-at-g, then-at-g-via-else-at-g+then-g-end}

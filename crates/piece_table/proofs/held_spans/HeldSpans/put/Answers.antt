@@ -1,6 +1,6 @@
 use Rattle.fs_types.proofs.Common.{◌≡◌, ◌+◌, ◌∷◌, ap, ◌∙◌, subst}
 use Rattle.fs_types.specs.Fragments.{fragment_count}
-use Rattle.fs_types.specs.Pieces.{Fragment, Piece}
+use Rattle.fs_types.specs.Pieces.{Piece}
 use Rattle.span_list.specs.Spans.{put_fragment}
 use Rattle.piece_table.specs.HeldSpans.{kept}
 use Rattle.piece_table.specs.PieceTable.{number_of}

@@ -1,7 +1,3 @@
-use Rattle.fs_types.proofs.Common.{◌≡◌, ◌+◌, ◌≤◌, ◌∙◌, ap, arith, length, subst}
-use Rattle.fs_types.specs.Pieces.{Piece}
-use Rattle.indexmap.specs.IndexMap.{insert_all}
-use Rattle.fs_types.specs.Fragments.{piece_eq}
 use Rattle.piece_table.proofs.Moves.{number_merged, hold_merged, AreCounted-empty, AreCounted-merged, length-merged}
 use Rattle.piece_table.proofs.piece_table.PieceTable.append.Goals as goal
 

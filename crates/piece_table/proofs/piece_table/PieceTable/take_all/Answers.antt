@@ -1,4 +1,4 @@
-use Rattle.fs_types.proofs.Common.{◌≡◌, ◌+◌, ◌≤◌, ◌++◌, ◌∷◌, [], ap, arith, refl, length, Some, length_push}
+use Rattle.fs_types.proofs.Common.{◌∷◌, [], ap, arith, refl, length}
 use Rattle.piece_table.specs.PieceTable.{Pieces}
 use Rattle.piece_table.proofs.Moves.{AreCounted-taken, AreOut-taken, held_rest, unheld_rest}
 use Rattle.piece_table.proofs.Releases.{ComesOut-none, ComesOut-then}
@@ -23,9 +23,11 @@ loop-counted-preserved g c =
       room = omega (arith, so_far.room, c.in-Some.ensures.len, c.push_reserved.ensures.len, c.push_reserved.ensures.capacity);
       held = λ q h is. so_far.held q h
           (held_rest g.H.Hold.is_ready g.H.Hold.piece _ _ c.in-Some.field-0-0 c.in-Some.counted so_far.counted last updates q h is);
-      out = ComesOut-then g.H.Hold.piece _ _ _ _ _ _ so_far.out
-          (c.in-Some.counted.hold ∷ [], c.push_reserved.ensures.items,
-            AreOut-taken g.H.Hold.is_ready g.H.Hold.piece _ _ c.in-Some.field-0-0 c.in-Some.counted so_far.counted last updates)
+      out = ComesOut-then g.H.Hold.piece _ _ _ _ _ _ so_far.out (
+        c.in-Some.counted.hold ∷ [],
+        c.push_reserved.ensures.items,
+        AreOut-taken g.H.Hold.is_ready g.H.Hold.piece _ _ c.in-Some.field-0-0 c.in-Some.counted so_far.counted last updates,
+      )
           so_far.held
           (unheld_rest g.H.Hold.is_ready g.H.Hold.piece _ _ c.in-Some.field-0-0 c.in-Some.counted so_far.counted last updates);
     }
