@@ -6,6 +6,7 @@ use super::*;
 use fs_types::{Frag, Hold, LONGEST_FILE, LineNo, MemHold, PieceId};
 use span_list::SpanList;
 use std::alloc::Global;
+use std::process::Abort;
 use std::test::Fail;
 
 type Kept = HeldSpans<MemHold, SpanList>;
@@ -60,12 +61,13 @@ fn held_of(alloc: Global, first: u32, past: u32, puts: &[(u64, u32, u32)]) -> Re
     Ok(kept)
 }
 
-// The lines of which there are holds.
+// The lines of which there are holds, in order.
 fn lines(alloc: Global, holds: &[MemHold]) -> Result<Vec<u32>, Fail> {
     let mut all = Vec::new(alloc);
     for h in holds {
         all.push(h.piece().line.0)?;
     }
+    all.sort_unstable();
     Ok(all)
 }
 
@@ -152,6 +154,14 @@ fn both_halves_of_a_piece_are_held(rt: HostRuntime) -> Result<(), Fail> {
     Ok(())
 }
 
+// At each of these places stands this line, and its piece is held.
+fn assert_stand(rt: &impl Abort, name: &str, kept: &Kept, marks: &[(u64, u32)]) {
+    for (at, line) in marks {
+        assert_eq!(rt; line_at(kept, *at), Some(*line), "{name}, at {at}");
+        assert!(rt; kept.hold_of(piece(*line)).is_some(), "{name}, at {at}");
+    }
+}
+
 #[test]
 fn all_of_a_list_is_put_over_another(rt: HostRuntime) -> Result<(), Fail> {
     let alloc = rt.alloc();
@@ -196,15 +206,12 @@ fn all_of_a_list_is_put_over_another(rt: HostRuntime) -> Result<(), Fail> {
         kept.put_all(&mut over, &mut dead)
             .ok()
             .ok_or("there is memory")?;
-        for (at, line) in marks {
-            assert_eq!(rt; line_at(&kept, *at), Some(*line), "{name}, at {at}");
-            assert!(rt; kept.hold_of(piece(*line)).is_some(), "{name}, at {at}");
-        }
+        assert_stand(&rt, name, &kept, marks);
         let found = lines(alloc, &dead)?;
         assert_eq!(rt; found.as_slice(), want, "{name}");
         assert!(rt; over.is_empty(), "{name}");
-        for (_, _, line) in above {
-            assert!(rt; over.hold_of(piece(*line)).is_none(), "{name}");
+        for line in 11..13 {
+            assert!(rt; over.hold_of(piece(line)).is_none(), "{name}");
         }
     }
     Ok(())
@@ -217,8 +224,7 @@ fn all_holds_come_out_of_a_list_that_is_cleared(rt: HostRuntime) -> Result<(), F
     let mut dead = Vec::new(alloc);
     assert!(rt; !kept.is_empty());
     kept.clear(&mut dead).ok().ok_or("there is memory")?;
-    let mut found = lines(alloc, &dead)?;
-    found.sort_unstable();
+    let found = lines(alloc, &dead)?;
     assert_eq!(rt; found.as_slice(), [1, 2, 3].as_slice());
     assert!(rt; kept.is_empty());
     assert_eq!(rt; kept.next(0), None);
