@@ -1,0 +1,117 @@
+-- Fragments that were all put over others with their holds, and fragments that were all dropped.
+use Rattle.fs_types.proofs.Common.{◌≡◌, ℕ, ◌+◌, Bool, true, false, cond, List, [], ◌∷◌, Option, Some, None, is_some, refl, sym, ap, ◌∙◌, subst, arith}
+use Rattle.fs_types.proofs.Common.{All, All-nil, get_or, none-some, ◌++◌, cases_Bool, inl, inr, cond-true, cond-false, true≢false, false≢true}
+use Rattle.std.specs.Map.{lookup}
+use Rattle.std.specs.Option.{option_or}
+use Rattle.fs_types.specs.Fragments.{fragment_count, piece_eq}
+use Rattle.fs_types.specs.Pieces.{Piece, Fragment}
+use Rattle.span_list.specs.Spans.{AreSpans, cut_fragments}
+use Rattle.span_list.proofs.Parts.{at_rest_before}
+use Rattle.piece_table.specs.HeldSpans.{HandsOver, IsKept, Kept, LiesIn, PutsAll, held, is_named, kept, put_fragments}
+use Rattle.piece_table.specs.PieceTable.{AreCounted, Pieces, number_in, number_of, hold_in, hold_of}
+use Rattle.piece_table.specs.Thinning.{Thins, ComesOut}
+use Rattle.piece_table.proofs.Holds.{HaveHolds, HaveHolds-kept, HaveHolds-more, HaveHolds-puts, hold_laid, IsKept-laid, HandsOver-laid}
+use Rattle.piece_table.proofs.Places.{named_put}
+
+-- one of two, where the first is there, or isn't
+or_some : {X : Type 0} (a b : Option X) → is_some a ≡ true → option_or a b ≡ a
+or_some None b some = absurd (false≢true some)
+or_some (Some x) b some = refl
+
+or_none : {X : Type 0} (a b : Option X) → is_some a ≡ false → option_or a b ≡ b
+or_none None b none = refl
+or_none (Some x) b none = absurd (true≢false none)
+
+or_other : {X : Type 0} (a b : Option X) → (is_some a ≡ true → b ≡ None) → is_some b ≡ true → option_or a b ≡ b
+or_other None b apart some = refl
+or_other (Some x) b apart some = absurd (false≢true (sym (ap is_some (apart refl)) ∙ some))
+
+module _ {H : Type 0} (is_ready : H → Bool) (piece_of : H → Piece) (byte_count : H → ℕ)
+    (old over : Kept H) (is_kept : IsKept is_ready piece_of byte_count old) (over_kept : IsKept is_ready piece_of byte_count over)
+    (apart : (q : Piece) → is_some (hold_of over.pieces q) ≡ true → hold_of old.pieces q ≡ None)
+    (merged : Pieces H) (numbers : (q : Piece) → number_of merged q ≡ number_of old.pieces q + number_of over.pieces q)
+    (holds : (q : Piece) → hold_of merged q ≡ option_or (hold_of over.pieces q) (hold_of old.pieces q)) where
+  -- each fragment of both is counted
+  pub merged_counts : (q : Piece) → number_of merged q ≡ fragment_count q old.fragments + fragment_count q over.fragments
+  merged_counts q = omega (arith, numbers q, is_kept.numbers q, over_kept.numbers q)
+
+  have_merged : HaveHolds byte_count (hold_of merged) (put_fragments over.fragments old.fragments)
+  have_merged = HaveHolds-puts byte_count (hold_of merged) over.fragments old.fragments
+      (HaveHolds-more byte_count (hold_of old.pieces) (hold_of merged) old.fragments (HaveHolds-kept byte_count is_ready piece_of old is_kept)
+      (λ q some. holds q ∙ or_other (hold_of over.pieces q) (hold_of old.pieces q) (apart q) some))
+      (HaveHolds-more byte_count (hold_of over.pieces) (hold_of merged) over.fragments
+      (HaveHolds-kept byte_count is_ready piece_of over over_kept) (λ q some. holds q ∙ or_some (hold_of over.pieces q) (hold_of old.pieces q) some))
+
+  module _ (counted : AreCounted is_ready piece_of merged.entries) (laid : Pieces H) (fs : List Fragment)
+      (put : fs ≡ put_fragments over.fragments old.fragments) (laid_numbers : (q : Piece) → number_of laid q ≡ fragment_count q fs)
+      (thins : Thins merged laid) where
+    have : HaveHolds byte_count (hold_of merged) fs
+    have = subst (HaveHolds byte_count (hold_of merged)) (sym put) have_merged
+
+    named_still : (q : Piece) → is_named over.fragments q ≡ true → is_named fs q ≡ true
+    named_still q named = subst (λ us. is_named us q ≡ true) (sym put) (named_put q over.fragments old.fragments over_kept.are_held.spans named)
+
+    pub IsKept-put_all : IsKept is_ready piece_of byte_count (kept fs laid)
+    IsKept-put_all = IsKept-laid byte_count is_ready piece_of merged laid fs have counted laid_numbers thins
+
+    pub PutsAll-laid : PutsAll (held over) (held old) (held (kept fs laid))
+    PutsAll-laid = record {
+      fragments = put;
+      holds = λ q. hold_laid byte_count is_ready piece_of merged laid fs have counted laid_numbers thins q
+          ∙ elim (cases_Bool (is_named over.fragments q)) [
+            | inl named ↦ cond-true _ (hold_of merged q) None (named_still q named) ∙ holds q
+                ∙ or_some (hold_of over.pieces q) (hold_of old.pieces q) (over_kept.are_held.named q ∙ named)
+                ∙ sym (cond-true _ (hold_of over.pieces q) (cond (is_named fs q) (hold_of old.pieces q) None) named)
+            | inr unnamed ↦
+                ap (λ o. cond (is_named fs q) o None)
+                (holds q ∙ or_none (hold_of over.pieces q) (hold_of old.pieces q) (over_kept.are_held.named q ∙ unnamed))
+                ∙ sym (cond-false _ (hold_of over.pieces q) (cond (is_named fs q) (hold_of old.pieces q) None) unnamed)
+          ];
+    }
+
+    pub HandsOver-put_all : (dead after : List H) → ComesOut piece_of (hold_of merged) (hold_of laid) dead after
+        → HandsOver piece_of (held old) (held (kept fs laid)) dead after
+    HandsOver-put_all = HandsOver-laid byte_count is_ready piece_of merged laid fs have counted laid_numbers thins old
+        (λ q unnamed. elim (cases_Bool (is_named over.fragments q)) [
+          | inl named ↦ absurd (true≢false (sym (named_still q named) ∙ unnamed))
+          | inr other ↦ holds q ∙ or_none (hold_of over.pieces q) (hold_of old.pieces q) (over_kept.are_held.named q ∙ other)
+        ])
+
+-- nothing is left of what is cut at the begin
+pub cut_all : (fs : List Fragment) → cut_fragments 0 fs ≡ []
+cut_all [] = refl
+cut_all (f ∷ fs) =
+    at_rest_before (λ us. us ++ cut_fragments 0 fs ≡ []) 0 f (λ begins. cut_all fs) (λ before. absurd (omega arith))
+
+module _ {H : Type 0} (is_ready : H → Bool) (piece_of : H → Piece) (byte_count : H → ℕ) where
+  -- no fragments and no pieces
+  pub IsKept-none : (fs : List Fragment) (pieces : Pieces H) → AreSpans fs → fs ≡ [] → pieces.entries ≡ []
+      → IsKept is_ready piece_of byte_count (kept fs pieces)
+  IsKept-none fs pieces spans none empty = record {
+    are_held = record {
+      spans = spans;
+      named = λ q. ap is_some (unheld q) ∙ sym (ap (λ us. is_named us q) none);
+      piece = λ q h is. absurd (none-some h (sym (unheld q) ∙ is));
+      ready = λ q h is. absurd (none-some h (sym (unheld q) ∙ is));
+      within = subst (All (LiesIn byte_count (hold_of pieces))) (sym none) (All-nil (LiesIn byte_count (hold_of pieces)));
+    };
+    numbers = λ q. ap (λ es. number_in (lookup (piece_eq q) es)) empty ∙ sym (ap (fragment_count q) none);
+  }
+    where
+      unheld : (q : Piece) → hold_of pieces q ≡ None
+      unheld q = ap (λ es. hold_in (lookup (piece_eq q) es)) empty
+
+  -- all holds go where all fragments do
+  pub HandsOver-all : (old : Kept H) (fs : List Fragment) (pieces : Pieces H) → fs ≡ [] → pieces.entries ≡ [] → (dead after : List H)
+      → ComesOut piece_of (hold_of old.pieces) (hold_of pieces) dead after → HandsOver piece_of (held old) (held (kept fs pieces)) dead after
+  HandsOver-all old fs pieces none empty dead after comes =
+      let out = comes.2 in (
+        comes.0,
+        comes.1,
+        record {
+          held = out.held;
+          unnamed = λ k d inside. ap (λ us. is_named us (piece_of (get_or comes.0 k d))) none;
+          each = λ q h was unnamed. out.each q h was (ap (λ es. hold_in (lookup (piece_eq q) es)) empty);
+          once = out.once;
+        },
+      )

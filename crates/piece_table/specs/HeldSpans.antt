@@ -1,0 +1,74 @@
+-- Fragments with the holds of the pieces that they name: what putting some over others gives, and which holds no fragment
+-- needs any more.
+use Rattle.std.specs.Prelude.{◌≡◌, ℕ, ◌+◌, ◌≤◌, Bool, false, IsTrue, List, ◌++◌, fold, All, AllPairs, Contains, Option, Some, None, is_some, if◌then◌else◌}
+use Rattle.std.specs.List.{list_any}
+use Rattle.fs_types.specs.Fragments.{piece_eq, fragment_count}
+use Rattle.fs_types.specs.Pieces.{Piece, Fragment}
+use Rattle.span_list.specs.Spans.{AreSpans, put_fragment}
+use Rattle.piece_table.specs.PieceTable.{Pieces, hold_of, number_of}
+
+-- fragments, and for each piece its hold, where some fragment names it
+pub record Held (H : Type 0) : Type 0 where
+  pub fragments : List Fragment
+  pub hold_of : Piece → Option H
+
+-- some fragment names a piece
+abbrev pub is_named : List Fragment → Piece → Bool
+is_named fs q = list_any (λ f. piece_eq f.piece q) fs
+
+-- one fragment with its hold was put over the others: the piece of the fragment has that hold, and every other piece its own
+-- while some fragment names it
+pub record Puts {H : Type 0} (f : Fragment) (h : H) (old new : Held H) : Type 0 where
+  pub fragments : new.fragments ≡ put_fragment f old.fragments
+  pub holds : (q : Piece) → new.hold_of q
+      ≡ (if piece_eq q f.piece then Some h else if is_named new.fragments q then old.hold_of q else None)
+
+-- the fragments of one list put over others in its order
+abbrev pub put_fragments : List Fragment → List Fragment → List Fragment
+put_fragments over fs = fold (λ us f. put_fragment f us) fs over
+
+-- all fragments of another were put over these, in order, with their holds
+pub record PutsAll {H : Type 0} (over old new : Held H) : Type 0 where
+  pub fragments : new.fragments ≡ put_fragments over.fragments old.fragments
+  pub holds : (q : Piece) → new.hold_of q
+      ≡ (if is_named over.fragments q then over.hold_of q else if is_named new.fragments q then old.hold_of q else None)
+
+-- these are the holds of the pieces that no fragment names any more, each once
+pub record AreGone {H : Type 0} (piece : H → Piece) (old new : Held H) (gone : List H) : Type 0 where
+  pub held : All (λ h. old.hold_of (piece h) ≡ Some h) gone
+  pub unnamed : All (λ h. is_named new.fragments (piece h) ≡ false) gone
+  pub each : (q : Piece) (h : H) → old.hold_of q ≡ Some h → is_named new.fragments q ≡ false → Contains gone h
+  pub once : AllPairs (λ g h. piece_eq (piece g) (piece h) ≡ false) gone
+
+-- the holds that no fragment needs any more were added to a list
+abbrev pub HandsOver : {H : Type 0} → (H → Piece) → Held H → Held H → List H → List H → Type 0
+HandsOver {H} piece old new before after = (gone : List H) × (after ≡ before ++ gone) × AreGone piece old new gone
+
+-- a fragment lies in the piece that it names, where that has a hold
+abbrev pub LiesIn : {H : Type 0} → (H → ℕ) → (Piece → Option H) → Fragment → Type 0
+LiesIn {H} byte_count hold_of f = (h : H) → hold_of f.piece ≡ Some h → f.from + f.len ≤ byte_count h
+
+-- each piece that is named has a ready hold of its own in which its fragments lie, and no other piece has one
+pub record AreHeld {H : Type 0} (is_ready : H → Bool) (piece_of : H → Piece) (byte_count : H → ℕ) (x : Held H) : Type 0 where
+  pub spans : AreSpans x.fragments
+  pub named : (q : Piece) → is_some (x.hold_of q) ≡ is_named x.fragments q
+  pub piece : (q : Piece) (h : H) → x.hold_of q ≡ Some h → piece_of h ≡ q
+  pub ready : (q : Piece) (h : H) → x.hold_of q ≡ Some h → IsTrue (is_ready h)
+  pub within : All (LiesIn byte_count x.hold_of) x.fragments
+
+-- what is kept: fragments in order of place, and a table of the pieces that they name
+pub record Kept (H : Type 0) : Type 0 where
+  pub fragments : List Fragment
+  pub pieces : Pieces H
+
+abbrev pub kept : {H : Type 0} → List Fragment → Pieces H → Kept H
+kept fragments pieces = record { fragments = fragments; pieces = pieces }
+
+-- what is kept as fragments with holds
+abbrev pub held : {H : Type 0} → Kept H → Held H
+held x = record { fragments = x.fragments; hold_of = hold_of x.pieces }
+
+-- what is kept is held, and the table counts the fragments of each piece
+pub record IsKept {H : Type 0} (is_ready : H → Bool) (piece_of : H → Piece) (byte_count : H → ℕ) (x : Kept H) : Type 0 where
+  pub are_held : AreHeld is_ready piece_of byte_count (held x)
+  pub numbers : (q : Piece) → number_of x.pieces q ≡ fragment_count q x.fragments

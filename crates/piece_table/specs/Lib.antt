@@ -1,0 +1,4 @@
+pub mod PieceTable
+pub mod Ranges
+pub mod Thinning
+pub mod HeldSpans

@@ -1,0 +1,265 @@
+ghost use Rattle.std.specs.Prelude.{◌≡◌, ◌≤◌, ◌<◌, ◌⊎◌, IsSome, IfOk, OnOk};
+ghost use Rattle.fs_types.specs.Pieces.{Piece};
+ghost use Rattle.piece_table.specs.HeldSpans.{held};
+
+use super::*;
+use fs_types::{Frag, Hold, LONGEST_FILE, LineNo, MemHold, PieceId};
+use span_list::SpanList;
+use std::alloc::Global;
+use std::process::Abort;
+use std::test::Fail;
+
+type Kept = HeldSpans<MemHold, SpanList>;
+
+fn piece(line: u32) -> PieceId
+    ensures { result ≡ record { line = line; part = 0 } }
+{
+    PieceId {
+        line: LineNo(line),
+        part: 0,
+    }
+}
+
+// Puts the whole of a new piece.
+fn put(kept: &mut Kept, at: u64, len: u32, line: u32, dead: &mut Vec<MemHold>) -> Result<(), Fail>
+    ensures { OnOk result ((q : Piece) → IsSome ((held kept.new).hold_of q)
+        → IsSome ((held kept.old).hold_of q) ⊎ (q.line ≡ line)) }
+{
+    let piece = piece(line);
+    if len == 0 || at > LONGEST_FILE - u64::from(len) {
+        return Err("a fragment of no file".into());
+    }
+    if kept.hold_of(piece).is_some() {
+        return Err("the piece is there".into());
+    }
+    let f = Frag {
+        at,
+        len: u64::from(len),
+        piece,
+        from: 0,
+    };
+    match kept.put(f, MemHold::new(piece, len, None), dead) {
+        Ok(()) => Ok(()),
+        Err(_) => Err("there is memory".into()),
+    }
+}
+
+// What puts of new pieces give, each as the place, the length and the line, where the lines are
+// within a range.
+fn held_of(alloc: Global, first: u32, past: u32, puts: &[(u64, u32, u32)]) -> Result<Kept, Fail>
+    ensures { IfOk result (λ kept. (q : Piece) → IsSome ((held kept).hold_of q)
+        → (first ≤ q.line) × (q.line < past)) }
+{
+    let mut kept = HeldSpans::new(alloc);
+    let mut dead = Vec::new(alloc);
+    for (at, len, line) in puts {
+        if *line < first || past <= *line {
+            return Err("a line outside the range".into());
+        }
+        put(&mut kept, *at, *len, *line, &mut dead)?;
+    }
+    Ok(kept)
+}
+
+// The lines of which there are holds, in order.
+fn lines(alloc: Global, holds: &[MemHold]) -> Result<Vec<u32>, Fail> {
+    let mut all = Vec::new(alloc);
+    for h in holds {
+        all.push(h.piece().line.0)?;
+    }
+    all.sort_unstable();
+    Ok(all)
+}
+
+// The line that stands at a place.
+fn line_at(held: &Kept, at: u64) -> Option<u32> {
+    let f = held.next(at)?;
+    if f.at > at {
+        return None;
+    }
+    Some(f.piece.line.0)
+}
+
+#[test]
+fn a_hold_comes_out_with_the_last_byte_of_its_piece(rt: HostRuntime) -> Result<(), Fail> {
+    let alloc = rt.alloc();
+    for (name, puts, want) in [
+        (
+            "nothing is left of it",
+            [(20, 10, 1), (20, 10, 2)].as_slice(),
+            [1].as_slice(),
+        ),
+        ("both halves are left", &[(20, 10, 1), (24, 2, 2)], &[]),
+        (
+            "its left half is left",
+            &[(20, 10, 1), (24, 2, 2), (26, 4, 3)],
+            &[],
+        ),
+        (
+            "its right half is left",
+            &[(20, 10, 1), (24, 2, 2), (20, 4, 3)],
+            &[],
+        ),
+        (
+            "its halves go one after the other",
+            &[(20, 10, 1), (24, 2, 2), (20, 4, 3), (26, 4, 4)],
+            &[1],
+        ),
+        (
+            "its halves go at once, and what stood between",
+            &[(20, 10, 1), (24, 2, 2), (20, 10, 3)],
+            &[1, 2],
+        ),
+        (
+            "one put takes the last bytes of two",
+            &[(0, 4, 1), (4, 4, 2), (0, 8, 3)],
+            &[1, 2],
+        ),
+        ("its first byte is left", &[(20, 10, 1), (21, 9, 2)], &[]),
+        ("its last byte is left", &[(20, 10, 1), (20, 9, 2)], &[]),
+    ] {
+        let mut held: Kept = HeldSpans::new(alloc);
+        let mut dead = Vec::new(alloc);
+        for (at, len, line) in puts {
+            put(&mut held, *at, *len, *line, &mut dead)?;
+        }
+        let found = lines(alloc, &dead)?;
+        assert_eq!(rt; found.as_slice(), want, "{name}");
+        for line in want {
+            assert!(rt; held.hold_of(piece(*line)).is_none(), "{name}");
+        }
+    }
+    Ok(())
+}
+
+#[test]
+fn both_halves_of_a_piece_are_held(rt: HostRuntime) -> Result<(), Fail> {
+    let alloc = rt.alloc();
+    let held = held_of(alloc, 0, 10, &[(20, 10, 1), (24, 2, 2)])?;
+    for (at, want) in [
+        (19, None),
+        (20, Some(1)),
+        (23, Some(1)),
+        (24, Some(2)),
+        (25, Some(2)),
+        (26, Some(1)),
+        (29, Some(1)),
+        (30, None),
+    ] {
+        assert_eq!(rt; line_at(&held, at), want, "at {at}");
+    }
+    assert!(rt; held.hold_of(piece(1)).is_some());
+    assert!(rt; held.hold_of(piece(2)).is_some());
+    assert!(rt; held.hold_of(piece(3)).is_none());
+    Ok(())
+}
+
+// At each of these places stands this line, and its piece is held.
+fn assert_stand(rt: &impl Abort, name: &str, kept: &Kept, marks: &[(u64, u32)]) {
+    for (at, line) in marks {
+        assert_eq!(rt; line_at(kept, *at), Some(*line), "{name}, at {at}");
+        assert!(rt; kept.hold_of(piece(*line)).is_some(), "{name}, at {at}");
+    }
+}
+
+#[test]
+fn all_of_a_list_is_put_over_another(rt: HostRuntime) -> Result<(), Fail> {
+    let alloc = rt.alloc();
+    for (name, below, above, marks, want) in [
+        (
+            "over an end and a begin",
+            [(0, 10, 1), (10, 10, 2)].as_slice(),
+            [(5, 10, 11), (18, 4, 12)].as_slice(),
+            [
+                (0, 1),
+                (4, 1),
+                (5, 11),
+                (14, 11),
+                (15, 2),
+                (17, 2),
+                (18, 12),
+                (21, 12),
+            ]
+            .as_slice(),
+            [].as_slice(),
+        ),
+        (
+            "over all of one",
+            &[(0, 10, 1), (10, 10, 2)],
+            &[(0, 5, 11), (5, 6, 12)],
+            &[(0, 11), (4, 11), (5, 12), (10, 12), (11, 2), (19, 2)],
+            &[1],
+        ),
+        (
+            "over all",
+            &[(0, 10, 1), (10, 10, 2)],
+            &[(0, 20, 11), (4, 2, 12)],
+            &[(0, 11), (3, 11), (4, 12), (5, 12), (6, 11), (19, 11)],
+            &[1, 2],
+        ),
+        ("into nothing", &[], &[(3, 2, 11)], &[(3, 11), (4, 11)], &[]),
+        ("nothing", &[(3, 2, 1)], &[], &[(3, 1), (4, 1)], &[]),
+    ] {
+        let mut kept = held_of(alloc, 0, 10, below)?;
+        let mut over = held_of(alloc, 10, 20, above)?;
+        let mut dead = Vec::new(alloc);
+        kept.put_all(&mut over, &mut dead)
+            .ok()
+            .ok_or("there is memory")?;
+        assert_stand(&rt, name, &kept, marks);
+        let found = lines(alloc, &dead)?;
+        assert_eq!(rt; found.as_slice(), want, "{name}");
+        assert!(rt; over.is_empty(), "{name}");
+        for line in 11..13 {
+            assert!(rt; over.hold_of(piece(line)).is_none(), "{name}");
+        }
+    }
+    Ok(())
+}
+
+#[test]
+fn all_holds_come_out_of_a_list_that_is_cleared(rt: HostRuntime) -> Result<(), Fail> {
+    let alloc = rt.alloc();
+    let mut kept = held_of(alloc, 0, 10, &[(0, 10, 1), (4, 2, 2), (30, 1, 3)])?;
+    let mut dead = Vec::new(alloc);
+    assert!(rt; !kept.is_empty());
+    kept.clear(&mut dead).ok().ok_or("there is memory")?;
+    let found = lines(alloc, &dead)?;
+    assert_eq!(rt; found.as_slice(), [1, 2, 3].as_slice());
+    assert!(rt; kept.is_empty());
+    assert_eq!(rt; kept.next(0), None);
+    for line in 1..4 {
+        assert!(rt; kept.hold_of(piece(line)).is_none());
+    }
+    Ok(())
+}
+
+#[test]
+fn a_table_counts_the_fragments_of_a_piece(rt: HostRuntime) -> Result<(), Fail> {
+    let alloc = rt.alloc();
+    let mut pieces = PieceTable::new(alloc);
+    pieces.reserve(2).ok().ok_or("there is memory")?;
+    for line in [1, 2] {
+        if pieces.hold(piece(line)).is_some() {
+            return Err("the piece is there".into());
+        }
+        pieces
+            .enter(MemHold::new(piece(line), 5, None))
+            .ok()
+            .ok_or("there is memory")?;
+    }
+    assert_eq!(rt; pieces.len(), 2);
+    let mut one = PieceTable::new(alloc);
+    one.enter(MemHold::new(piece(3), 5, None))
+        .ok()
+        .ok_or("there is memory")?;
+    one.more(piece(3));
+    one.more(piece(3));
+    assert!(rt; one.less(piece(3)).is_none(), "two are left");
+    assert!(rt; one.less(piece(3)).is_none(), "one is left");
+    assert!(rt; one.hold(piece(3)).is_some(), "one is left");
+    let hold = one.less(piece(3)).ok_or("it was the last")?;
+    assert_eq!(rt; hold.piece(), piece(3));
+    assert!(rt; one.hold(piece(3)).is_none(), "none is left");
+    Ok(())
+}
