@@ -101,29 +101,6 @@ AreRising-from_sort {A} vs sorted distinct =
     AreRising-from_IsStrictlySortedBy vs (IsStrictlySortedBy-from_distinct (on_total (λ (v : Vec ℕ A). v.items) nat_list_cmp_total)
     (λ x y. lists_ties nat_cmp unsigned_ties x.items y.items) vs sorted distinct)
 
--- ---- places
--- the path stands at its place
-pub slice_get-position : (ps : List (List ℕ)) (p : List ℕ) → IfSome (position (λ q. bytes_eq q p) ps) (λ i. slice_get ps i ≡ Some p)
-slice_get-position ps p = by (position (λ q. bytes_eq q p) ps) refl
-  where
-    by : (r : Option ℕ) → position (λ q. bytes_eq q p) ps ≡ r → IfSome r (λ i. slice_get ps i ≡ Some p)
-    by None e = tt
-    by (Some i) e =
-        let at = position-Some (λ q. bytes_eq q p) ps i p e in
-        slice_get-get_or ps i p at.0 ∙ ap Some ((bytes_eq-Decides (get_or ps i p) p).0 at.1)
-
--- a path without a place is not among them
-pub absent-from_position : (ps : List (List ℕ)) (p : List ℕ) → IfNone (position (λ q. bytes_eq q p) ps) (Contains ps p → ⊥)
-absent-from_position ps p = by (ltb (position_or_len (λ q. bytes_eq q p) ps) (length ps)) refl
-  where
-    by : (b : Bool) → ltb (position_or_len (λ q. bytes_eq q p) ps) (length ps) ≡ b
-        → IfNone (cond b (Some (position_or_len (λ q. bytes_eq q p) ps)) None) (Contains ps p → ⊥)
-    by true e = tt
-    by false e = λ there.
-        let past : length ps ≤ position_or_len (λ q. bytes_eq q p) ps = ltb-false _ _ e in
-        true≢false (sym ((bytes_eq-Decides (get_or ps there.0 p) p).1 there.2)
-        ∙ fails_before_first (λ q. bytes_eq q p) ps there.0 p (omega (arith, past, there.1)))
-
 -- ---- the paths of lines
 -- one line more brings its path
 fold-with_path_of-more : (acc : List (List ℕ)) (ls : List Line) (k : ℕ) → k < length ls

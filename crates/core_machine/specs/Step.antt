@@ -6,6 +6,7 @@ use Rattle.fs_script.specs.declared.line.OpLine.{OpLine}
 use Rattle.fs_script.specs.declared.line.Op.{Op}
 use Rattle.fs_script.specs.declared.line.Op.TheVariants as ops
 use Rattle.fs_script.specs.Job.{Job, op_at}
+use Rattle.fs_script.specs.Operations.{range_of}
 use Rattle.fs_script.specs.Payload.{write_of}
 use Rattle.fs_script.specs.Pending.{Answering, pending}
 use Rattle.fs_script.specs.Effect.{state}
@@ -29,7 +30,7 @@ event_of chunk w ops.Create = create_event w
 event_of chunk w ops.Open = open_event w
 event_of chunk w (ops.Write off text) = write_event chunk w (write_of off text)
 event_of chunk w ops.Sync = sync_event w
-event_of chunk w (ops.Read off len) = read_event w (record { off = off; len = len })
+event_of chunk w (ops.Read off len) = read_event w (range_of off len)
 event_of chunk w ops.Size = size_event w
 
 -- what line n, the operation o, sees of its path, whose journal is J

@@ -23,6 +23,7 @@ pub use Rattle.fs_script.proofs.Finished.{IsLegal-finished}
 pub use Rattle.fs_script.proofs.AnsweredLines.{rises_past, lines-passing}
 -- paths in byte order, their places, and what stands beside each
 pub use Rattle.fs_script.proofs.PathPlaces.{not_among, place_unique, same_bytes, other_bytes, journal_of-zip, journal_of-absent}
+pub use Rattle.fs_script.proofs.PathPlaces.{slice_get-position, absent-from_position}
 pub use Rattle.fs_script.proofs.LegalReports.{IsPath-named}
 -- plain lists, ranges and options
 pub use Rattle.fs_script.proofs.PlainLists.{some_of, none_from-is_some}
@@ -30,6 +31,7 @@ pub use Rattle.fs_script.proofs.PlainLists.{AllByRecursion-from_get, AllByRecurs
 pub use Rattle.fs_script.proofs.PlainLists.{slice_get-set_same, slice_get-set_other, slice_get-map_some, slice_get-some}
 pub use Rattle.fs_script.proofs.PlainLists.{AllByRecursion-from_contained}
 pub use Rattle.fs_script.proofs.PlainLists.{range-push, slice_get-range}
-pub use Rattle.fs_script.proofs.PlainLists.{passes, passing-rise, passing-place, passing-places}
+pub use Rattle.fs_script.proofs.PlainLists.{passes, passing-rise, passing-place, passing-places, Contains-passing}
+pub use Rattle.fs_script.proofs.PlainLists.{fold-min-le, fold-min-least, fold-min-there, filter_map-at, filter_map-from}
 -- the script of five lines, for worked cases
 pub use Rattle.fs_script.proofs.FiveLines.{path_a, on_a, five_lines}

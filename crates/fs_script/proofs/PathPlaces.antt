@@ -2,7 +2,8 @@
 use Rattle.fs_types.proofs.Common.{◌≡◌, ℕ, zero, suc, true, false, List, [], ◌∷◌, Some, refl, sym, ap, subst, ◌∙◌, arith, true≢false, zip}
 use Rattle.fs_types.proofs.Common.{AllByRecursion, Contains, slice_get, bytes_eq, nat_cmp, is_lt, slice_cmp, tied_itself}
 use Rattle.fs_types.proofs.Common.{nat_list_cmp_total, false_from_ne_true, cond-true, cond-false, Contains-append_right, same_Some}
-use Rattle.fs_types.proofs.Common.{bytes_eq-Decides}
+use Rattle.fs_types.proofs.Common.{bytes_eq-Decides, None, length, ◌≤◌, cond, ltb, get_or, Option, Bool, IfSome, position, ltb-false}
+use Rattle.fs_types.proofs.Common.{IfNone, position-Some, fails_before_first, slice_get-get_or, position_or_len}
 use Rattle.fs_script.specs.Vocabulary.{AreRising, journal_of}
 
 -- a path that is below each of a list is not among them
@@ -52,3 +53,27 @@ journal_of-absent (q ∷ qs) [] p absent = refl
 journal_of-absent (q ∷ qs) (k ∷ ks) p absent =
     journal_of-later (q, k) (zip qs ks) p (other_bytes q p (λ e. absent (0, omega arith, e)))
     ∙ journal_of-absent qs ks p (λ there. absent (Contains-append_right (q ∷ []) qs p there))
+
+-- ---- the first place at which a path stands
+
+-- the path stands at its place
+pub slice_get-position : (ps : List (List ℕ)) (p : List ℕ) → IfSome (position (λ q. bytes_eq q p) ps) (λ i. slice_get ps i ≡ Some p)
+slice_get-position ps p = by (position (λ q. bytes_eq q p) ps) refl
+  where
+    by : (r : Option ℕ) → position (λ q. bytes_eq q p) ps ≡ r → IfSome r (λ i. slice_get ps i ≡ Some p)
+    by None e = tt
+    by (Some i) e =
+        let at = position-Some (λ q. bytes_eq q p) ps i p e in
+        slice_get-get_or ps i p at.0 ∙ ap Some ((bytes_eq-Decides (get_or ps i p) p).0 at.1)
+
+-- a path without a place is not among them
+pub absent-from_position : (ps : List (List ℕ)) (p : List ℕ) → IfNone (position (λ q. bytes_eq q p) ps) (Contains ps p → ⊥)
+absent-from_position ps p = by (ltb (position_or_len (λ q. bytes_eq q p) ps) (length ps)) refl
+  where
+    by : (b : Bool) → ltb (position_or_len (λ q. bytes_eq q p) ps) (length ps) ≡ b
+        → IfNone (cond b (Some (position_or_len (λ q. bytes_eq q p) ps)) None) (Contains ps p → ⊥)
+    by true e = tt
+    by false e = λ there.
+        let past : length ps ≤ position_or_len (λ q. bytes_eq q p) ps = ltb-false _ _ e in
+        true≢false (sym ((bytes_eq-Decides (get_or ps there.0 p) p).1 there.2)
+        ∙ fails_before_first (λ q. bytes_eq q p) ps there.0 p (omega (arith, past, there.1)))

@@ -6,7 +6,8 @@ use Rattle.fs_types.proofs.Common.{refl, sym, ap, ◌∙◌, subst, subst₂, ta
 use Rattle.fs_types.proofs.Common.{cond_both, cond-true, cases_eq, cases_order, none-some, same_Some, slice_get_within, slice_get-get_or}
 use Rattle.fs_types.proofs.Common.{get_or_from_slice_get, length-map, length_push, get_or-map, get_or_append_left, All-from_recursion}
 use Rattle.fs_types.proofs.Common.{recursion_from_All, All-take, All-push, All-filter, filter_passes, length-range_with_len}
-use Rattle.fs_types.proofs.Common.{get_or-range_with_len, AllPairs-filter, sum_by-take-le, set, Contains}
+use Rattle.fs_types.proofs.Common.{get_or-range_with_len, AllPairs-filter, sum_by-take-le, set, Contains, min, fold}
+use Rattle.fs_types.proofs.Common.{filter_map, cases_lt, cons_option}
 use Rattle.std.specs.Option.{option_map}
 use Rattle.std.proofs.lemmas.Option.{slice_get-map}
 
@@ -181,3 +182,62 @@ passing-place P a (suc len) n e from to =
           let r = passing-place P (a + 1) len n e (omega arith) (omega arith) in
           cond_both (P a) (a ∷ rest) rest (λ xs. (k : ℕ) × (slice_get xs k ≡ Some n)) (λ _. (suc r.0, r.1)) (λ _. r)
     ]
+
+-- a number of a range that passes a test is among those that do
+pub Contains-passing : (P : ℕ → Bool) (a len n : ℕ) → P n ≡ true → a ≤ n → n < a + len → Contains (filter P (range_with_len a len)) n
+Contains-passing P a len n e from to =
+    let ns = filter P (range_with_len a len) in
+    let at = passing-place P a len n e from to in
+    (at.0, slice_get_within ns at.0 n at.1, get_or_from_slice_get ns at.0 n n at.1)
+
+-- ---- the least of some numbers
+
+-- the least is at most the first number
+pub fold-min-le : (a : ℕ) (xs : List ℕ) → fold min a xs ≤ a
+fold-min-le a [] = omega arith
+fold-min-le a (x ∷ xs) = omega (arith, fold-min-le (min a x) xs)
+
+-- and each other
+pub fold-min-least : (a : ℕ) (xs : List ℕ) → AllByRecursion (λ x. fold min a xs ≤ x) xs
+fold-min-least a [] = tt
+fold-min-least a (x ∷ xs) = (omega (arith, fold-min-le (min a x) xs), fold-min-least (min a x) xs)
+
+min-there : (a x : ℕ) (xs : List ℕ) (y k : ℕ) → k < suc (length xs) → get_or (min a x ∷ xs) k y ≡ y → Contains (a ∷ x ∷ xs) y
+min-there a x xs y zero lt is = elim (cases_lt x a) [
+  | inl less ↦ (1, omega arith, omega arith)
+  | inr other ↦ (0, omega arith, omega arith)
+]
+min-there a x xs y (suc k) lt is = (suc (suc k), omega arith, is)
+
+-- it is the first number or stands among the others
+pub fold-min-there : (a : ℕ) (xs : List ℕ) → Contains (a ∷ xs) (fold min a xs)
+fold-min-there a [] = (0, omega arith, refl)
+fold-min-there a (x ∷ xs) = let there = fold-min-there (min a x) xs in min-there a x xs (fold min (min a x) xs) there.0 there.1 there.2
+
+-- ---- what a function gives of some elements
+
+-- what it gives of an element has a place
+pub filter_map-at : {X Y : Type 0} (f : X → Option Y) (xs : List X) (i : ℕ) (x : X) (y : Y)
+    → slice_get xs i ≡ Some x → f x ≡ Some y → (j : ℕ) × (slice_get (filter_map f xs) j ≡ Some y)
+filter_map-at f [] i x y at is = absurd (none-some x at)
+filter_map-at f (w ∷ ws) zero x y at is = rw (ap f (same_Some w x at) ∙ is) (0, refl)
+filter_map-at f (w ∷ ws) (suc i) x y at is =
+    let later = filter_map-at f ws i x y at is in
+    elim (f w) as (λ o. (j : ℕ) × (slice_get (cons_option o (filter_map f ws)) j ≡ Some y)) [
+      | None ↦ later
+      | Some v ↦ (suc later.0, later.1)
+    ]
+
+module _ {X Y : Type 0} (f : X → Option Y) (w : X) (ws : List X) (y : Y) (later : (j : ℕ) → slice_get (filter_map f ws) j ≡ Some y
+    → (i : ℕ) × (x : X) × (slice_get ws i ≡ Some x) × (f x ≡ Some y)) where
+  cons_option-from : (o : Option Y) (j : ℕ) → f w ≡ o → slice_get (cons_option o (filter_map f ws)) j ≡ Some y
+      → (i : ℕ) × (x : X) × (slice_get (w ∷ ws) i ≡ Some x) × (f x ≡ Some y)
+  cons_option-from None j gives at = let there = later j at in (suc there.0, there.1, there.2, there.3)
+  cons_option-from (Some v) zero gives at = (0, w, refl, gives ∙ at)
+  cons_option-from (Some v) (suc j) gives at = let there = later j at in (suc there.0, there.1, there.2, there.3)
+
+-- and at each place stands what it gives of some element
+pub filter_map-from : {X Y : Type 0} (f : X → Option Y) (xs : List X) (j : ℕ) (y : Y)
+    → slice_get (filter_map f xs) j ≡ Some y → (i : ℕ) × (x : X) × (slice_get xs i ≡ Some x) × (f x ≡ Some y)
+filter_map-from f [] j y at = absurd (none-some y at)
+filter_map-from f (w ∷ ws) j y at = cons_option-from f w ws y (λ i h. filter_map-from f ws i y h) (f w) j refl at

@@ -76,13 +76,17 @@ pub record Range : Type 0 where
   pub off : ℕ
   pub len : ℕ
 
+-- the range of so many bytes from a place on
+abbrev pub range_of : ℕ → ℕ → Range
+range_of off len = record { off = off; len = len }
+
 -- the range of the file that an operation shows, if it does
 abbrev pub asked : Op → Option Range
 asked ops.Create = None
 asked ops.Open = None
 asked (ops.Write off text) = None
 asked ops.Sync = None
-asked (ops.Read off len) = Some (record { off = off; len = len })
+asked (ops.Read off len) = Some (range_of off len)
 asked ops.Size = None
 
 -- it asks how long the file is

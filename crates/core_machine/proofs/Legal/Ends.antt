@@ -8,8 +8,8 @@ use Rattle.fs_script.specs.Vocabulary.{FileState, Job, op_at, op_lines, is_of_ra
 use Rattle.core_machine.specs.Vocabulary.{OpLine, Moment, printed, client_of, file_now, has_begun, may_come, next_line, ready, report_of}
 use Rattle.core_machine.specs.Vocabulary.{IsAnsweredUpTo, IsLegalMoment}
 use Rattle.fs_script.proofs.CallerLemmas.{rises_past, lines-passing, IsLegal-finished, phase-rises, some_of, op_at-within, passing-rise}
-use Rattle.fs_script.proofs.CallerLemmas.{program-place, program-op}
-use Rattle.core_machine.proofs.Legal.Phases.{Contains-passing, lets_begin, has_begun-from}
+use Rattle.fs_script.proofs.CallerLemmas.{program-place, program-op, Contains-passing}
+use Rattle.core_machine.proofs.Legal.Phases.{lets_begin, has_begun-from}
 
 -- the place of a client whose lines before the one at i have answers, but not that one
 place-is : (s : Job) (A : Answering) (r place i n : ℕ) → IsAnsweredUpTo s A r place

@@ -4,14 +4,7 @@ use Rattle.fs_types.proofs.Common.{inl, inr, ◌||◌, filter, range_with_len, o
 use Rattle.fs_types.proofs.Common.{AllPass-from_list_all, list_all-from_AllPass, slice_get_within, get_or_from_slice_get}
 use Rattle.fs_script.specs.Vocabulary.{op_at, op_lines, phase}
 use Rattle.core_machine.specs.Vocabulary.{OpLine, Moment, printed, has_begun}
-use Rattle.fs_script.proofs.CallerLemmas.{some_of, op_at-within, passing-place}
-
--- a number of a range that passes a test is among those that do
-pub Contains-passing : (P : ℕ → Bool) (a len n : ℕ) → P n ≡ true → a ≤ n → n < a + len → Contains (filter P (range_with_len a len)) n
-Contains-passing P a len n e from to =
-    let ns = filter P (range_with_len a len) in
-    let at = passing-place P a len n e from to in
-    (at.0, slice_get_within ns at.0 n at.1, get_or_from_slice_get ns at.0 n n at.1)
+use Rattle.fs_script.proofs.CallerLemmas.{some_of, op_at-within, Contains-passing}
 
 -- line k lets the phase of line n begin: it was answered, or is of no earlier phase
 abbrev pub lets_begin : Moment → ℕ → ℕ → Bool

@@ -4,29 +4,8 @@ use Rattle.fs_types.proofs.Common.{Contains, refl, ap, ◌∙◌, inl, inr, arit
 use Rattle.fs_types.proofs.Common.{cons_option, option_map, cases_lt, none-some, same_Some, slice_get-get_or, slice_get_within}
 use Rattle.fs_types.proofs.Common.{get_or_from_slice_get, All-from_recursion}
 use Rattle.fs_script.specs.Vocabulary.{Job, phase}
+use Rattle.fs_script.proofs.CallerLemmas.{fold-min-le, fold-min-least, fold-min-there, filter_map-at, filter_map-from}
 use Rattle.core_machine.specs.Vocabulary.{Program, IsLeast, next_of, next_phases}
-
--- ---- the least number
-
-fold-min-le : (a : ℕ) (xs : List ℕ) → fold min a xs ≤ a
-fold-min-le a [] = omega arith
-fold-min-le a (x ∷ xs) = omega (arith, fold-min-le (min a x) xs)
-
-fold-min-least : (a : ℕ) (xs : List ℕ) → AllByRecursion (λ x. fold min a xs ≤ x) xs
-fold-min-least a [] = tt
-fold-min-least a (x ∷ xs) = (omega (arith, fold-min-le (min a x) xs), fold-min-least (min a x) xs)
-
-min-there : (a x : ℕ) (xs : List ℕ) (y k : ℕ) → k < suc (length xs) → get_or (min a x ∷ xs) k y ≡ y → Contains (a ∷ x ∷ xs) y
-min-there a x xs y zero lt is = elim (cases_lt x a) [
-  | inl less ↦ (1, omega arith, omega arith)
-  | inr other ↦ (0, omega arith, omega arith)
-]
-min-there a x xs y (suc k) lt is = (suc (suc k), omega arith, is)
-
--- it is the first number or stands among the others
-fold-min-there : (a : ℕ) (xs : List ℕ) → Contains (a ∷ xs) (fold min a xs)
-fold-min-there a [] = (0, omega arith, refl)
-fold-min-there a (x ∷ xs) = let there = fold-min-there (min a x) xs in min-there a x xs (fold min (min a x) xs) there.0 there.1 there.2
 
 pub none_least : (xs : List ℕ) → IfNone (reduce min xs) (xs ≡ [])
 none_least [] = refl
@@ -38,32 +17,6 @@ IsLeast-from_reduce (x ∷ xs) = record {
   there = fold-min-there x xs;
   least = All-from_recursion (λ y. fold min x xs ≤ y) (x ∷ xs) (fold-min-le x xs, fold-min-least x xs);
 }
-
--- ---- what a function gives of some elements
-
-filter_map-at : {X Y : Type 0} (f : X → Option Y) (xs : List X) (i : ℕ) (x : X) (y : Y)
-    → slice_get xs i ≡ Some x → f x ≡ Some y → (j : ℕ) × (slice_get (filter_map f xs) j ≡ Some y)
-filter_map-at f [] i x y at is = absurd (none-some x at)
-filter_map-at f (w ∷ ws) zero x y at is = rw (ap f (same_Some w x at) ∙ is) (0, refl)
-filter_map-at f (w ∷ ws) (suc i) x y at is =
-    let later = filter_map-at f ws i x y at is in
-    elim (f w) as (λ o. (j : ℕ) × (slice_get (cons_option o (filter_map f ws)) j ≡ Some y)) [
-      | None ↦ later
-      | Some v ↦ (suc later.0, later.1)
-    ]
-
-module _ {X Y : Type 0} (f : X → Option Y) (w : X) (ws : List X) (y : Y) (later : (j : ℕ) → slice_get (filter_map f ws) j ≡ Some y
-    → (i : ℕ) × (x : X) × (slice_get ws i ≡ Some x) × (f x ≡ Some y)) where
-  cons_option-from : (o : Option Y) (j : ℕ) → f w ≡ o → slice_get (cons_option o (filter_map f ws)) j ≡ Some y
-      → (i : ℕ) × (x : X) × (slice_get (w ∷ ws) i ≡ Some x) × (f x ≡ Some y)
-  cons_option-from None j gives at = let there = later j at in (suc there.0, there.1, there.2, there.3)
-  cons_option-from (Some v) zero gives at = (0, w, refl, gives ∙ at)
-  cons_option-from (Some v) (suc j) gives at = let there = later j at in (suc there.0, there.1, there.2, there.3)
-
-filter_map-from : {X Y : Type 0} (f : X → Option Y) (xs : List X) (j : ℕ) (y : Y)
-    → slice_get (filter_map f xs) j ≡ Some y → (i : ℕ) × (x : X) × (slice_get xs i ≡ Some x) × (f x ≡ Some y)
-filter_map-from f [] j y at = absurd (none-some y at)
-filter_map-from f (w ∷ ws) j y at = cons_option-from f w ws y (λ i h. filter_map-from f ws i y h) (f w) j refl at
 
 -- ---- the phases of the lines that are done next
 

@@ -1,6 +1,7 @@
 use Rattle.fs_types.proofs.Common.{◌≡◌, position, slice_get, Contains, Some, sym, ap, subst, ◌∙◌, IfSome, IfNone, bytes_eq}
 use Rattle.core_machine.specs.Vocabulary.{texts}
-use Rattle.core_machine.proofs.PathTables.{position-texts, slice_get-position, absent-from_position}
+use Rattle.fs_script.proofs.CallerLemmas.{slice_get-position, absent-from_position}
+use Rattle.core_machine.proofs.PathTables.{position-texts}
 use Rattle.core_machine.proofs.path_table.PathTable.index_of.Goals as goal
 
 pub returns-clause-place : goal.returns-clause-place
