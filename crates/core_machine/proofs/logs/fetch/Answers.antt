@@ -1,0 +1,28 @@
+use Rattle.std.proofs.Common.{◌<◌, length, arith, rules}
+use Rattle.core_machine.proofs.LogSlots.{held-log, memory-log, part-log}
+use Rattle.core_machine.proofs.logs.fetch.Goals as goal
+
+pub bounds-logs-rank-inside : goal.bounds-logs-rank-inside
+bounds-logs-rank-inside g c = rw c.rank.view_is (held-log c.args.logs.now c.args.h.now.rank c.args.h.now.slot c.requires.held.count)
+
+pub offset_bounds-logs-rank-inside : goal.offset_bounds-logs-rank-inside
+offset_bounds-logs-rank-inside g c =
+    let inside : c.rank.inside.0 < length c.args.logs.now =
+    rw c.rank.view_is (held-log c.args.logs.now c.args.h.now.rank c.args.h.now.slot c.requires.held.count) in
+    search rules
+
+pub read_piece-requires : goal.read_piece-requires
+read_piece-requires g c =
+    let piece = part-log c.args.s.now c.args.logs.now c.args.h.now c.index-logs-rank.result c.requires.held in
+    rw (c.rank.view_is, piece) (omega (arith, c.requires.within, c.requires.held.bytes))
+
+pub unreachable-requires : goal.unreachable-requires
+unreachable-requires g c =
+    let spilled = rw c.rank.view_is at c.in_default.ensures.err.spilled in
+    let shared = memory-log c.args.s.now c.args.logs.now c.args.h.now c.index-logs-rank.result c.requires.held c.requires.in_memory in
+    omega (arith, spilled, shared)
+
+pub returns-clause-given : goal.returns-clause-given
+returns-clause-given g c =
+    let piece = part-log c.args.s.now c.args.logs.now c.args.h.now c.index-logs-rank.result c.requires.held in
+    rw (c.rank.view_is, piece) at c.in-Ok.ensures.given
