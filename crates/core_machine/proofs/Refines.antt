@@ -1,24 +1,13 @@
 -- The code is the machine: what is kept stands for the moment, before the first event and after each.
+pub mod Syncs
 pub mod NextAnswers
 pub mod Owners
 pub mod Clients
 pub mod JournalsKept
 pub mod StatesOfPaths
 pub mod Now
-pub mod KeptPieces
-pub mod Owned
-pub mod Readers
-pub mod HoldsKept
-pub mod FilledSlots
-pub mod SlotsAfter
-pub mod LogsAre
-pub mod Stepped
 pub mod LinesAnswered
-pub mod LogsAfter
-pub mod StandThen
-pub mod TasksThen
-pub mod Steps
-pub mod Sound
+pub mod Moments
 pub mod PhaseEnds
 pub mod Ready
 pub mod First

@@ -1,43 +1,36 @@
 //! What a run keeps, and its events: each is one of the machine of moments.
 
-ghost use Rattle.std.specs.Prelude.{◌≡◌, ℕ, ◌+◌, ◌*◌, ◌<◌, ◌≤◌, true, false, Some, None, slice_get, [], ◌∷◌, length, map, Contains, All, IsSome, IfSome, IfNone, IfOk, OnOk, OnErr};
+ghost use Rattle.std.specs.Prelude.{◌≡◌, ℕ, ◌+◌, ◌<◌, true, false, Some, None, slice_get, [], ◌∷◌, length, map, Contains, All, IsSome, IfSome, IfNone, IfOk, OnOk, OnErr};
 ghost use Rattle.fs_script.specs.Job.{op_at};
 ghost use Rattle.fs_script.specs.Grammar.{IsJob};
 ghost use Rattle.fs_script.specs.Report.{AreRising, file_state_of, journal_of};
-ghost use Rattle.core_machine.specs.EventsLeft.{events_left};
-ghost use Rattle.core_machine.specs.Moment.{IsFirst, ready, journal, file_now};
-ghost use Rattle.core_machine.specs.Slots.{census, count_in};
+ghost use Rattle.core_machine.specs.Moment.{IsFirst, ready, events_left, journal, file_now};
 ghost use Rattle.core_machine.specs.Step.{step};
 ghost use Rattle.core_machine.specs.Kept.{AreFreshClients};
-ghost use Rattle.core_machine.specs.Follows.{FollowsAt, IsSoundAt, changes_file, changes_path, finds_file, finds_path};
+ghost use Rattle.core_machine.specs.Follows.{FollowsAt, FollowsIn, IsSoundAt, IsSoundIn};
 ghost use Rattle.core_machine.specs.OwnerFiles.{ChangesOne, ChangesOnePath, owned_at};
 ghost use Rattle.core_machine.specs.PathStates.{AreKept, states_of};
-ghost use Rattle.core_machine.specs.Turns.{going, turns_then, IsInPhase};
+ghost use Rattle.core_machine.specs.Turns.{going};
 ghost use Rattle.core_machine.specs.MomentKept.{journals_of, moment_of};
 ghost use Rattle.core_machine.specs.Turns.{after_line};
-ghost use Rattle.core_machine.specs.Logs.{device_state, fresh_logs};
 ghost use Rattle.core_machine.specs.Standing.{Holds};
 ghost use Rattle.core_machine.specs.Core.{IsRun, moment, states};
 
 use crate::event;
 use crate::file_state::file_state;
-use crate::logs::{into_devices, new_logs};
 use crate::owner_files::{FileName, OwnerFiles};
 use crate::owners::{owned, owners_of, tell_all};
 use crate::path_state::{ClientPath, OwnedPath, fresh_clients};
 use crate::path_table::PathTable;
-use crate::task::{Task, idle_tasks};
 use crate::turns::Turns;
-use fs_dev::SpillDev;
 use fs_script::{Line, OpLine, Script};
-use fs_types::{Answer, Answers, FileState, LineNo, Path, Rank, SlotLine, Want};
+use fs_types::{Answer, Answers, FileState, LineNo, Path, Rank, Want};
 use placement::{gfid_of, owner_of};
-use slot_plain::PlainLog;
 use std::alloc::Global;
 
 /// What a run keeps. Before memory runs out it stands for a moment of the machine.
 #[derive(Drop)]
-pub struct Run<'s, D: SpillDev + Drop> {
+pub struct Run<'s> {
     pub alloc: Global,
     pub script: &'s Script,
     pub paths: PathTable,
@@ -45,12 +38,6 @@ pub struct Run<'s, D: SpillDev + Drop> {
     pub owners: Vec<OwnerFiles>,
     /// For each path, at its place in the table, what each client keeps for it, by rank.
     pub clients: Vec<Vec<ClientPath>>,
-    /// What each client is in the midst of, by rank.
-    pub tasks: Vec<Task>,
-    /// The log of each client, by rank.
-    pub logs: Vec<PlainLog<D>>,
-    /// No device, with room for those of the logs.
-    pub devices: Vec<D>,
     pub answers: Answers,
     pub turns: Turns<'s>,
     /// Memory ran out.
@@ -91,27 +78,16 @@ fn place(paths: &PathTable, p: &Path) -> usize
     }
 }
 
-/// The run of a script before its first event, with a device for each client's log.
-pub fn first_run<'s, D: SpillDev + Drop>(
-    alloc: Global,
-    s: &'s Script,
-    devices: Vec<D>,
-) -> Result<Run<'s, D>, Want>
-    requires one_each { length devices.items ≡ s.now.shape.clients }
-    requires fit { All (λ d. s.now.shape.spill * s.now.shape.chunk ≤ D.size d) devices.items }
+/// The run of a script before its first event.
+pub fn first_run(alloc: Global, s: &Script) -> Result<Run<'_>, Want>
     ensures run { IfOk result IsRun }
     ensures first { IfOk result (λ r. IsFirst s.now (moment r)) }
     ensures job { OnOk result (IsJob s.now) }
-    ensures devices { IfOk result (λ r. map (λ log. log.device) r.logs.items
-        ≡ map (λ d. device_state (D.size d) (D.cells d) (D.faults d)) devices.items) }
 {
     let shape = s.shape();
     let paths = PathTable::of_script(alloc, s)?;
     let owners = owners_of(alloc, shape.servers, &paths)?;
     let clients = fresh_clients_of(alloc, paths.len(), shape.clients)?;
-    let tasks = idle_tasks(alloc, shape.clients)?;
-    let mut room = devices;
-    let logs = new_logs(alloc, s, &mut room)?;
     let answers = Answers::new(alloc, s.lines())?;
     let turns = Turns::new(alloc, s)?;
     Ok(Run {
@@ -120,18 +96,15 @@ pub fn first_run<'s, D: SpillDev + Drop>(
         paths,
         owners,
         clients,
-        tasks,
-        logs,
-        devices: room,
         answers,
         turns,
         spent: false,
     })
 }
 
-// The event of line `n` at its path's owner. After want of memory what is kept for the path and for
-// the client, and the logs, are open.
-fn event_at_owner<D: SpillDev + Drop>(
+// Answers line `n` of client `r` at its path's owner. After want of memory what is kept for the
+// path is open.
+fn answer_at_owner(
     alloc: Global,
     s: &Script,
     n: LineNo,
@@ -139,115 +112,103 @@ fn event_at_owner<D: SpillDev + Drop>(
     gfid: u64,
     owner: &mut OwnerFiles,
     clients: &mut [ClientPath],
-    tasks: &mut [Task],
-    logs: &mut [PlainLog<D>],
-) -> Result<Option<Answer>, Want>
+    r: Rank,
+) -> Result<Answer, Want>
     requires line { op_at s.now n ≡ Some o.now }
-    requires sound { IsSoundAt (finds_file gfid o.now.path) s.now n o.now.op o.now.rank
-        owner.old clients.old tasks.old logs.old }
+    requires sound { IsSoundIn s.now r gfid o.now.path owner.old clients.old }
     ensures changes { ChangesOne owner.old owner.new gfid o.now.path }
-    ensures follows { IfOk result (λ a. FollowsAt (finds_file gfid o.now.path)
-        (changes_file gfid o.now.path) s.now n o.now.op o.now.rank owner.old owner.new
-        clients.old clients.new tasks.old tasks.new logs.old logs.new a) }
+    ensures follows { IfOk result (λ a. FollowsIn s.now n o.now.op r gfid o.now.path
+        owner.old owner.new clients.old clients.new a) }
 {
-    let at = o.rank.0 as usize;
+    let at = r.0 as usize;
     let own = &mut clients[at];
-    let task = &mut tasks[at];
     let path = o.path.as_bytes();
     match owner.files.get_mut(FileName { gfid, path }) {
-        Some(file) => event::event(alloc, s, n, o, file, own, task, logs),
+        Some(file) => event::answer(alloc, s, n, o, file, own),
         None => unreachable!(),
     }
 }
 
-// The event of line `n`, for whose path the clients keep this. After want of memory what is kept
-// for the path and for the client, and the logs, are open.
-fn event_on_path<D: SpillDev + Drop>(
+// Answers line `n` of client `r`, for whose path the clients keep this. After want of memory what
+// is kept for the path is open.
+fn answer_on_path(
     alloc: Global,
     s: &Script,
     n: LineNo,
     o: &OpLine,
     owners: &mut [OwnerFiles],
     clients: &mut [ClientPath],
-    tasks: &mut [Task],
-    logs: &mut [PlainLog<D>],
-) -> Result<Option<Answer>, Want>
+    r: Rank,
+) -> Result<Answer, Want>
     requires line { op_at s.now n ≡ Some o.now }
     requires servers { length owners.old ≡ s.now.shape.servers }
-    requires sound { IsSoundAt (finds_path o.now.path) s.now n o.now.op o.now.rank
-        owners.old clients.old tasks.old logs.old }
+    requires sound { IsSoundAt s.now r o.now.path owners.old clients.old }
     ensures changes { ChangesOnePath owners.old owners.new o.now.path }
-    ensures follows { IfOk result (λ a. FollowsAt (finds_path o.now.path)
-        (changes_path o.now.path) s.now n o.now.op o.now.rank owners.old owners.new
-        clients.old clients.new tasks.old tasks.new logs.old logs.new a) }
+    ensures follows { IfOk result (λ a. FollowsAt s.now n o.now.op r o.now.path
+        owners.old owners.new clients.old clients.new a) }
 {
     let gfid = gfid_of(&o.path);
     let owner = owner_of(gfid, s.shape().servers);
-    let files = &mut owners[owner.0 as usize];
-    event_at_owner(alloc, s, n, o, gfid, files, clients, tasks, logs)
+    answer_at_owner(
+        alloc,
+        s,
+        n,
+        o,
+        gfid,
+        &mut owners[owner.0 as usize],
+        clients,
+        r,
+    )
 }
 
-// One event of the next line of a client that goes; whether the line was answered. After want of
-// memory what is kept for that line's path and for the client, and the logs, are open.
-fn event_of_line<D: SpillDev + Drop>(
+// Answers the next line of a client that goes. After want of memory what is kept for that line's
+// path is open.
+fn answer_line(
     alloc: Global,
     s: &Script,
     paths: &PathTable,
     owners: &mut [OwnerFiles],
     clients: &mut [Vec<ClientPath>],
-    tasks: &mut [Task],
-    logs: &mut [PlainLog<D>],
     answers: &mut Answers,
     turns: &Turns<'_>,
     r: Rank,
-) -> Result<bool, Want>
+) -> Result<(), Want>
     requires kept { AreKept s.now.shape.servers paths.now owners.old clients.old }
     requires holds { Holds s.now paths.now (states_of (owned_at owners.old) paths.now clients.old)
-        answers.old turns.now tasks.old logs.old }
+        answers.old turns.now }
     requires going { Contains (going turns.now) r }
     ensures kept { AreKept s.now.shape.servers paths.now owners.new clients.new }
-    ensures sized { length logs.new ≡ length logs.old }
-    ensures devices { map (λ log. log.device) logs.new ≡ map (λ log. log.device) logs.old }
-    ensures holds { IfOk result (λ ended.
-        Holds s.now paths.now (states_of (owned_at owners.new) paths.now clients.new)
-        answers.new (turns_then ended r turns.now) tasks.new logs.new) }
-    ensures step { IfOk result (λ ended.
-        moment_of s.now paths.now (states_of (owned_at owners.new) paths.now clients.new)
-        answers.new (turns_then ended r turns.now) tasks.new logs.new false
+    ensures holds { OnOk result
+        (Holds s.now paths.now (states_of (owned_at owners.new) paths.now clients.new)
+        answers.new (after_line turns.now r)) }
+    ensures step { OnOk result
+        (moment_of s.now paths.now (states_of (owned_at owners.new) paths.now clients.new)
+        answers.new (after_line turns.now r) false
         ≡ step (moment_of s.now paths.now (states_of (owned_at owners.old) paths.now clients.old)
-        answers.old turns.now tasks.old logs.old false) (record { client = r })) }
+        answers.old turns.now false) (record { client = r })) }
 {
     let n = turns.next(r);
     let o = operation(s, n);
     let i = place(paths, &o.path);
-    match event_on_path(alloc, s, n, o, owners, &mut clients[i], tasks, logs)? {
-        Some(answer) => {
-            answers.set(n, answer);
-            Ok(true)
-        }
-        None => Ok(false),
-    }
+    let answer = answer_on_path(alloc, s, n, o, owners, &mut clients[i], r)?;
+    answers.set(n, answer);
+    Ok(())
 }
 
 // Goes on to the next line of a client, and where that begins a phase, tells all clients of every
 // path.
-fn go_on<D: SpillDev + Drop>(run: &mut Run<'_, D>, r: Rank)
+fn go_on(run: &mut Run<'_>, r: Rank)
     requires kept { AreKept run.old.script.now.shape.servers run.old.paths run.old.owners.items
         run.old.clients.items }
     requires going { Contains (going run.old.turns) r }
     requires holds { Holds run.old.script.now run.old.paths (states run.old) run.old.answers
-        (after_line run.old.turns r) run.old.tasks.items run.old.logs.items }
+        (after_line run.old.turns r) }
     requires unspent { run.old.spent ≡ false }
-    ensures kept { AreKept run.new.script.now.shape.servers run.new.paths run.new.owners.items
-        run.new.clients.items }
-    ensures phases { IsInPhase run.new.turns }
-    ensures holds { Holds run.new.script.now run.new.paths (states run.new) run.new.answers
-        run.new.turns run.new.tasks.items run.new.logs.items }
+    ensures run { IsRun run.new }
     ensures unspent { run.new.spent ≡ false }
     ensures moment { moment run.new
         ≡ moment_of run.old.script.now run.old.paths (states run.old) run.old.answers
-        (after_line run.old.turns r) run.old.tasks.items run.old.logs.items false }
-    ensures rest { run.new ≡ record run.old { owners = run.new.owners; turns = run.new.turns } }
+        (after_line run.old.turns r) false }
 {
     if run.turns.advance(r) {
         tell_all(&mut run.owners);
@@ -255,7 +216,7 @@ fn go_on<D: SpillDev + Drop>(run: &mut Run<'_, D>, r: Rank)
 }
 
 /// One event of a client that is ready.
-pub fn advance<D: SpillDev + Drop>(run: &mut Run<'_, D>, r: Rank) -> Result<(), Want>
+pub fn advance(run: &mut Run<'_>, r: Rank) -> Result<(), Want>
     requires run { IsRun run.old }
     requires ready { Contains (ready (moment run.old)) r }
     ensures run { IsRun run.new }
@@ -263,23 +224,20 @@ pub fn advance<D: SpillDev + Drop>(run: &mut Run<'_, D>, r: Rank) -> Result<(), 
     ensures nearer { OnOk result (events_left (moment run.new) < events_left (moment run.old)) }
     ensures spent { OnErr result (run.new.spent ≡ true) }
 {
-    match event_of_line(
+    match answer_line(
         run.alloc,
         run.script,
         &run.paths,
         &mut run.owners,
         &mut run.clients,
-        &mut run.tasks,
-        &mut run.logs,
         &mut run.answers,
         &run.turns,
         r,
     ) {
-        Ok(true) => {
+        Ok(()) => {
             go_on(run, r);
             Ok(())
         }
-        Ok(false) => Ok(()),
         Err(e) => {
             run.spent = true;
             Err(e)
@@ -288,7 +246,7 @@ pub fn advance<D: SpillDev + Drop>(run: &mut Run<'_, D>, r: Rank) -> Result<(), 
 }
 
 /// The clients that may go: none once memory ran out.
-pub fn ready<'r, D: SpillDev + Drop>(run: &'r Run<'_, D>) -> &'r [Rank]
+pub fn ready<'r>(run: &'r Run<'_>) -> &'r [Rank]
     requires { IsRun run.now }
     ensures { result.now ≡ ready (moment run.now) }
 {
@@ -296,7 +254,7 @@ pub fn ready<'r, D: SpillDev + Drop>(run: &'r Run<'_, D>) -> &'r [Rank]
 }
 
 // What its owner keeps for a path that the script names.
-fn kept<'r, D: SpillDev + Drop>(run: &'r Run<'_, D>, p: &Path) -> Option<&'r OwnedPath>
+fn kept<'r>(run: &'r Run<'_>, p: &Path) -> Option<&'r OwnedPath>
     requires { AreKept run.now.script.now.shape.servers run.now.paths run.now.owners.items
         run.now.clients.items }
     ensures there { IfSome result (λ x. owned_at run.now.owners.items p.now ≡ Some x.now) }
@@ -310,7 +268,7 @@ fn kept<'r, D: SpillDev + Drop>(run: &'r Run<'_, D>, p: &Path) -> Option<&'r Own
 
 /// The journal of a path, empty where the script doesn't name it.
 #[tactic(auto, using(crate::proofs::Refines::Reads::kept_reads))]
-pub fn journal<'r, D: SpillDev + Drop>(run: &'r Run<'_, D>, p: &Path) -> &'r [LineNo]
+pub fn journal<'r>(run: &'r Run<'_>, p: &Path) -> &'r [LineNo]
     requires { IsRun run.now }
     ensures { result.now ≡ journal (moment run.now) p.now }
 {
@@ -320,57 +278,17 @@ pub fn journal<'r, D: SpillDev + Drop>(run: &'r Run<'_, D>, p: &Path) -> &'r [Li
     }
 }
 
-/// The file of a path, by the bytes in the logs. Once memory ran out what is kept is open, and the
-/// answer is the same want.
+/// The file of a path. Once memory ran out what is kept is open, and the answer is the same want.
 #[tactic(auto, using(crate::proofs::Refines::Reads::kept_reads))]
-pub fn file<D: SpillDev + Drop>(run: &mut Run<'_, D>, p: &Path) -> Result<FileState, Want>
-    requires { IsRun run.old }
-    ensures file { IfOk result (λ f. f ≡ file_state_of (file_now (moment run.old) p.now)) }
-    ensures same { run.new ≡ run.old }
+pub fn file(run: &Run<'_>, p: &Path) -> Result<FileState, Want>
+    requires { IsRun run.now }
+    ensures { IfOk result (λ f. f ≡ file_state_of (file_now (moment run.now) p.now)) }
 {
     if run.spent {
         return Err(Want);
     }
-    run.paths.index_of(p);
-    match owned(&run.owners, run.script.shape().servers, p) {
-        Some(path) => file_state(run.alloc, run.script, path, &mut run.logs),
+    match kept(run, p) {
+        Some(path) => file_state(run.alloc, run.script, path),
         None => Ok(FileState::Gone),
     }
-}
-
-// The log of a client that the job has.
-fn log<'r, D: SpillDev + Drop>(run: &'r Run<'_, D>, r: Rank) -> &'r PlainLog<D>
-    requires run { IsRun run.now }
-    requires going { run.now.spent ≡ false }
-    requires within { r < run.now.script.now.shape.clients }
-    ensures { slice_get run.now.logs.items r ≡ Some result.now }
-{
-    &run.logs[r.0 as usize]
-}
-
-/// What a report says of a client's slots.
-pub fn census<D: SpillDev + Drop>(run: &Run<'_, D>, r: Rank) -> SlotLine
-    requires run { IsRun run.now }
-    requires going { run.now.spent ≡ false }
-    requires within { r < run.now.script.now.shape.clients }
-    ensures { result ≡ census (moment run.now) r }
-{
-    log(run, r).line()
-}
-
-/// How often a slot of a client's log is held.
-pub fn count<D: SpillDev + Drop>(run: &Run<'_, D>, r: Rank, slot: u32) -> u64
-    requires run { IsRun run.now }
-    requires going { run.now.spent ≡ false }
-    requires within { r < run.now.script.now.shape.clients }
-    ensures { result ≡ count_in (moment run.now) r slot }
-{
-    log(run, r).count(slot)
-}
-
-/// The clients' devices, in the vector that was given.
-pub fn devices<D: SpillDev + Drop>(run: Run<'_, D>) -> Vec<D>
-    requires { IsRun run }
-{
-    into_devices(run.logs, run.devices)
 }
