@@ -1,9 +1,19 @@
 -- What a run reports at its end is legal: each event keeps the moment legal.
 pub mod Event
 pub mod Events
+pub mod Logs
 pub mod Journals
 pub mod Phases
 pub mod Turns
-pub mod Ends
+pub mod Census
+pub mod Measured
+pub mod After
+pub mod UnderWay
+pub mod Slots
 pub mod LegalSteps
+pub mod EventsLeft
+pub mod Ends
+pub mod First
+pub mod Reached
+pub mod NoSpace
 pub mod Runs

@@ -2,15 +2,15 @@
 use Rattle.std.proofs.lemmas.List.Elements.{Contains-push_cases}
 use Rattle.std.specs.Ordering.{ordering_reverse}
 use Rattle.std.specs.List.Sorted.{IsStrictlySortedBy}
-use Rattle.fs_types.proofs.Common.{◌≡◌, ℕ, zero, suc, ◌+◌, ◌-◌, ◌<◌, ◌≤◌, Bool, true, false, cond, ltb, ltb-false, not, List, [], ◌∷◌, ◌++◌}
+use Rattle.fs_types.proofs.Common.{◌≡◌, ℕ, zero, suc, ◌+◌, ◌-◌, ◌<◌, ◌≤◌, Bool, true, false, cond, ltb, not, List, [], ◌∷◌, ◌++◌}
 use Rattle.fs_types.proofs.Common.{length, take, get_or, position, Option, Some, None, Contains, Vec, nat_eq, refl, sym, ap, subst, ◌∙◌}
-use Rattle.fs_types.proofs.Common.{arith, true≢false, inl, inr, fold, if◌then◌else◌, IfSome, IfNone, ◌⊎◌, ◌||◌, AllByRecursion, slice_get}
-use Rattle.fs_types.proofs.Common.{list_any, prefix_len, position_or_len, IsDistinct, IsSorted, IsPermutation, bytes_eq, IsTotalOrder}
+use Rattle.fs_types.proofs.Common.{arith, true≢false, inl, inr, fold, if◌then◌else◌, ◌⊎◌, ◌||◌, AllByRecursion, slice_get}
+use Rattle.fs_types.proofs.Common.{list_any, prefix_len, IsDistinct, IsSorted, IsPermutation, bytes_eq, IsTotalOrder}
 use Rattle.fs_types.proofs.Common.{unsigned_ties, slice_cmp, pointwise, lists_ties, nat_cmp, is_lt, is_eq, eq_by_cmp}
 use Rattle.fs_types.proofs.Common.{Ordering, Less, Equal, Greater, nat_list_cmp_total, nat_list_eq_equiv, on_total}
 use Rattle.fs_types.proofs.Common.{sorted_from_all_adjacent, apart_from_distinct, sorted_head, sorted_tail, map_push, length-map}
 use Rattle.fs_types.proofs.Common.{Contains-append_left, IsPermutation-map, IsPermutation-sym, Contains-permutation}
-use Rattle.fs_types.proofs.Common.{position-Some, fails_before_first, slice_get-get_or, bytes_eq-Decides}
+use Rattle.fs_types.proofs.Common.{bytes_eq-Decides}
 use Rattle.indexmap.specs.IndexSet.{insert_key}
 use Rattle.fs_script.specs.Vocabulary.{Job, Names, operation, op_at, AreRising, ArePaths}
 use Rattle.core_machine.specs.Vocabulary.{Line, OpLine, texts, with_path, with_op, with_path_of, paths_of}

@@ -11,7 +11,7 @@ pub record StandsNext (s : Job) (A : Answering) (r place n : ℕ) : Type 0 where
   pub here : slice_get (program s r) place ≡ Some n
 
 -- a line of a client is an operation of it
-rank-op : (s : Job) (k q : ℕ) → rank_at s k ≡ Some q → (o : OpLine) × (op_at s k ≡ Some o) × (o.rank ≡ q)
+pub rank-op : (s : Job) (k q : ℕ) → rank_at s k ≡ Some q → (o : OpLine) × (op_at s k ≡ Some o) × (o.rank ≡ q)
 rank-op s k q is = grind (arith, common_steps)
 
 module _ {s : Job} {A : Answering} {r place n : ℕ} (t : StandsNext s A r place n) where

@@ -1,7 +1,7 @@
 -- Moments of two clients with a barrier between their lines, worked out by hand.
-use Rattle.fs_types.proofs.Common.{◌≡◌, ℕ, [], ◌∷◌, refl, false, codes}
-use Rattle.fs_script.specs.Vocabulary.{Job}
-use Rattle.core_machine.specs.Vocabulary.{Text, nothing, Client, Moment, fresh_client, ready, Turn, step}
+use Rattle.fs_types.proofs.Common.{◌≡◌, ℕ, List, [], ◌∷◌, Option, Some, None, refl, false, codes}
+use Rattle.fs_script.specs.Vocabulary.{Job, Piece}
+use Rattle.core_machine.specs.Vocabulary.{Text, nothing, Client, Moment, fresh_client, ready, report_of, Turn, step}
 use Rattle.fs_script.proofs.CallerLemmas.{path_a, on_a}
 use Rattle.fs_types.specs.declared.answer.Answer.TheVariants as answers
 use Rattle.fs_script.specs.declared.line.Line.TheVariants as lines
@@ -21,12 +21,16 @@ two_clients = record {
       ∷ [];
 }
 
+abbrev empty_log : List (Option Piece)
+empty_log = None ∷ None ∷ None ∷ None ∷ []
+
 abbrev start : Moment
 start = record {
   job = two_clients;
   clients = fresh_client ∷ fresh_client ∷ [];
   answers = [];
   journals = (path_a, []) ∷ [];
+  logs = empty_log ∷ empty_log ∷ [];
   spent = false;
 }
 
@@ -57,6 +61,7 @@ other_is : other_first ≡ record {
   clients = after_one ∷ after_one ∷ [];
   answers = (2, answers.Done 1) ∷ (5, answers.Exists 1) ∷ [];
   journals = (path_a, 2 ∷ []) ∷ [];
+  logs = empty_log ∷ empty_log ∷ [];
   spent = false;
 }
 other_is = refl
@@ -74,3 +79,11 @@ last_is = refl
 
 none_ready_at_end : ready other_last ≡ []
 none_ready_at_end = refl
+
+-- the piece that client 0 wrote stands in its lowest slot
+logs_at_end : other_last.logs ≡ (Some (record { line = 4; part = 0 }) ∷ None ∷ None ∷ None ∷ []) ∷ empty_log ∷ []
+logs_at_end = refl
+
+slots_at_end : (report_of other_last).slots
+    ≡ record { rank = 0; held = 1; free = 3; faults = 0 } ∷ record { rank = 1; held = 0; free = 4; faults = 0 } ∷ []
+slots_at_end = refl

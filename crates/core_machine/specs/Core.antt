@@ -1,7 +1,8 @@
 -- What a run keeps at every moment, and the moment that it stands for.
-use Rattle.std.specs.Prelude.{◌≡◌, List, false}
+use Rattle.std.specs.Prelude.{◌≡◌, ℕ, ◌≤◌, List, [], false, length, vec_capacity}
 use Rattle.core_machine.specs.declared.run.Run.{Run}
 use Rattle.core_machine.specs.Kept.{PathState}
+use Rattle.core_machine.specs.LegalSoFar.{IsLegalMoment}
 use Rattle.core_machine.specs.Moment.{Moment}
 use Rattle.core_machine.specs.MomentKept.{moment_of}
 use Rattle.core_machine.specs.OwnerFiles.{owned_at}
@@ -10,14 +11,19 @@ use Rattle.core_machine.specs.Turns.{IsInPhase}
 use Rattle.core_machine.specs.Standing.{Holds}
 
 -- what is kept for each path
-abbrev pub states : Run → List PathState
+abbrev pub states : {D : Type 0} → Run D → List PathState
 states r = states_of (owned_at r.owners.items) r.paths r.clients.items
 
-abbrev pub moment : Run → Moment
-moment r = moment_of r.script.now r.paths (states r) r.answers r.turns r.spent
+abbrev pub moment : {D : Type 0} → Run D → Moment
+moment r = moment_of r.script.now r.paths (states r) r.answers r.turns r.tasks.items r.logs.items r.spent
 
--- until memory runs out all that is kept holds
-pub record IsRun (r : Run) : Type 0 where
+-- until memory runs out all that is kept holds, and stands for a moment of a legal run
+pub record IsRun {D : Type 0} (r : Run D) : Type 0 where
   pub kept : AreKept r.script.now.shape.servers r.paths r.owners.items r.clients.items
   pub phases : IsInPhase r.turns
-  pub holds : r.spent ≡ false → Holds r.script.now r.paths (states r) r.answers r.turns
+  pub holds : r.spent ≡ false → Holds r.script.now r.paths (states r) r.answers r.turns r.tasks.items r.logs.items
+  pub legal : (told : List ℕ) → r.spent ≡ false → IsLegalMoment told (moment r)
+  -- a log for each client; their devices are in them, and the vector that these came in has room for them
+  pub logged : length r.logs.items ≡ r.script.now.shape.clients
+  pub no_device : r.devices.items ≡ []
+  pub room : length r.logs.items ≤ vec_capacity r.devices

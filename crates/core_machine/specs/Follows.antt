@@ -1,86 +1,200 @@
--- When an answer to a client's line, and what is kept after it, are those of the machine's event.
-use Rattle.std.specs.Prelude.{◌≡◌, ℕ, ◌≤◌, ◌||◌, ◌∷◌, [], ◌++◌, List, length, Some, slice_set, if◌then◌else◌, slice_get}
-use Rattle.fs_script.specs.Vocabulary.{Answer, Job, bytes_of, version_of, after_answer, effect_of, at_least, opens}
+-- When an answer to a client's line, or that it has none yet, and what is kept after it, are those of the machine's event.
+use Rattle.std.specs.Prelude.{◌≡◌, ◌≢◌, ℕ, ◌-◌, ◌^◌, ◌≤◌, ◌<◌, ◌==◌, Bool, true, false, ◌||◌, ◌&&◌, ◌∷◌, [], ◌++◌, List, length, Option}
+use Rattle.std.specs.Prelude.{Some, None, IsSome, is_some}
+use Rattle.std.specs.Prelude.{slice_set, if◌then◌else◌, slice_get}
+use Rattle.slot_plain.specs.Log.{Log}
+use Rattle.slot_plain.specs.Slots.{StoredPiece}
+use Rattle.fs_script.specs.Vocabulary.{Answer, Job, Piece, marks_in, version_of, after_answer, effect_of, at_least, opens, asked}
 use Rattle.fs_script.specs.declared.line.Op.{Op}
 use Rattle.core_machine.specs.declared.path_state.OwnedPath.{OwnedPath}
 use Rattle.core_machine.specs.declared.path_state.ClientPath.{ClientPath}
 use Rattle.core_machine.specs.declared.owner_files.OwnerFiles.{OwnerFiles}
+use Rattle.core_machine.specs.declared.task.Task.{Task}
+use Rattle.core_machine.specs.declared.task.Task.TheVariants.{Idle, Read}
 use Rattle.core_machine.specs.OwnerFiles.{file_in, owned_at, ChangesFile, ChangesPath}
 use Rattle.core_machine.specs.Doing.{nothing}
 use Rattle.core_machine.specs.Event.{Event, Known, known_of}
+use Rattle.core_machine.specs.Slots.{empty_slots}
 use Rattle.core_machine.specs.Step.{event_of}
-use Rattle.core_machine.specs.Kept.{PathState, AreSound, file_of, kept_now, known_from, pending_lines}
+use Rattle.core_machine.specs.Kept.{AreSound, file_marks, file_hold, kept_now, known_from, pending_hold, pending_lines}
+use Rattle.core_machine.specs.Logs.{AreFreeSlots, AreHeldSlots, AreInOneSlot, AreInMemory, HoldsStand, pieces_of, slot_in}
+use Rattle.core_machine.specs.HoldsKept.{holds_kept, keeps}
+use Rattle.core_machine.specs.Settling.{LogsFollow}
+use Rattle.core_machine.specs.Task.{IsTask, doing_of, task_hold}
 
--- the event of an operation over what is kept
-abbrev pub kept_event : Job → OwnedPath → ClientPath → Op → Event
-kept_event s x k op = event_of s.shape.chunk (kept_now s x k) op
+-- the event of an operation over what is kept, where so many slots of the client's log are free
+abbrev pub kept_event : Job → OwnedPath → ClientPath → ℕ → Task → Op → Event
+kept_event s x k free t op = event_of s (kept_now s x k free) (doing_of t) op
+
+-- the version that a read under way looked up is one of so many
+abbrev pub LookedUpWithin : Task → ℕ → Type 0
+LookedUpWithin Idle versions = Unit {0}
+LookedUpWithin (Read t) versions = t.version ≤ versions
+
+-- and a file is there at it, as `at` says of the versions
+abbrev pub KnowsLookedUp : (ℕ → Known) → Task → Type 0
+KnowsLookedUp at Idle = Unit {0}
+KnowsLookedUp at (Read t) = record { exists = true; frozen = false } ≡ at t.version
 
 -- what was noted of each version, and the file now, are as `at` says of the versions
-pub record Knows (s : Job) (at : ℕ → Known) (x : OwnedPath) (k : ClientPath) : Type 0 where
+pub record Knows (at : ℕ → Known) (x : OwnedPath) (k : ClientPath) : Type 0 where
   pub noted : known_from k.noted ≡ at k.noted.version
   pub board : known_from x.board ≡ at x.board.version
-  pub now : known_of (file_of s x.file) ≡ at (length x.journal.items)
+  pub now : known_of (file_marks x.file) ≡ at (length x.journal.items)
 
--- line n of a client, the operation op, had this answer; x and k are what was kept for its path and for the client on it,
--- and y and l what is kept after it
-pub record Follows (s : Job) (n : ℕ) (op : Op) (x : OwnedPath) (k : ClientPath) (y : OwnedPath) (l : ClientPath) (a : Answer)
-    : Type 0 where
-  pub answer : (kept_event s x k op).answer ≡ Some a
-  pub doing : (kept_event s x k op).doing ≡ nothing
-  pub journal : y.journal.items
-      ≡ (if (kept_event s x k op).commits then x.journal.items ++ n ∷ [] else x.journal.items)
-  pub file : file_of s y.file
-      ≡ (if (kept_event s x k op).commits then effect_of s (bytes_of s) op (pending_lines k) (file_of s x.file) else file_of s x.file)
+-- an event brings its line to its end with this answer, and puts the line's pieces into slots or doesn't
+pub record Ends (e : Event) (fills : Bool) (a : Answer) : Type 0 where
+  pub answer : e.answer ≡ Some a
+  pub doing : e.doing ≡ nothing
+  pub filling : e.fills ≡ fills
+
+-- the same holds are kept of a path and by a client on it
+pub record KeepsHolds (x : OwnedPath) (k : ClientPath) (y : OwnedPath) (l : ClientPath) : Type 0 where
+  pub files : (q : Piece) → file_hold y.file q ≡ file_hold x.file q
+  pub pending : (q : Piece) → pending_hold l q ≡ pending_hold k q
+
+-- line n of a client, the operation op, had this event with this answer, while the client was in the midst of t; x and k are
+-- what was kept for its path and for the client on it, and y and l what is kept after it
+pub record Follows (s : Job) (n : ℕ) (op : Op) (t : Task) (e : Event) (x : OwnedPath) (k : ClientPath) (y : OwnedPath) (l : ClientPath)
+    (a : Answer) : Type 0 where
+  pub journal : y.journal.items ≡ (if e.commits then x.journal.items ++ n ∷ [] else x.journal.items)
+  pub marks : file_marks y.file
+      ≡ (if e.commits then effect_of s (marks_in s) op (pending_lines k) (file_marks x.file) else file_marks x.file)
   pub board : y.board ≡ x.board
   pub opened : l.is_open ≡ (opens op a || k.is_open)
   pub pending : pending_lines l ≡ after_answer op a n (pending_lines k)
   pub version : l.noted.version ≡ at_least k.noted.version (version_of a)
   pub within : k.noted.version ≤ length x.journal.items → x.board.version ≤ length x.journal.items
-      → l.noted.version ≤ length y.journal.items
+      → LookedUpWithin t (length x.journal.items) → l.noted.version ≤ length y.journal.items
   -- whatever the versions' files are, what was noted goes on saying it
-  pub known : (at : ℕ → Known) → Knows s at y k → known_from l.noted ≡ at l.noted.version
+  pub known : (at : ℕ → Known) → Knows at y k → KnowsLookedUp at t → known_from l.noted ≡ at l.noted.version
+  -- a piece is kept only where one was, or where the line itself wrote it
+  pub owned : (q : Piece) → is_some (file_hold y.file q) ≡ true → keeps x k q ≡ true
+  pub pieces : (q : Piece) → is_some (pending_hold l q) ≡ true → (is_some (pending_hold k q) || e.fills && q.line == n) ≡ true
 
--- what is kept for client r on a path is sound
-pub record IsSoundFor (s : Job) (r : ℕ) (x : PathState) : Type 0 where
+-- without an answer nothing is kept otherwise than before, and nothing is committed or put into slots
+pub record KeepsAll (e : Event) (x : OwnedPath) (k : ClientPath) (y : OwnedPath) (l : ClientPath) : Type 0 where
+  pub commits : e.commits ≡ false
+  pub fills : e.fills ≡ false
+  pub owned : y ≡ x
+  pub client : l ≡ k
+
+-- what is kept after an event, by its answer
+abbrev pub FollowsBy : Job → ℕ → Op → Task → Event → OwnedPath → ClientPath → OwnedPath → ClientPath → Option Answer → Type 0
+FollowsBy s n op t e x k y l None = KeepsAll e x k y l
+FollowsBy s n op t e x k y l (Some a) = Follows s n op t e x k y l a
+
+-- each hold of the file, of what is pending and of what the client is in the midst of is of a slot that has its piece
+pub record KeptStand (s : Job) (logs : List Log) (x : OwnedPath) (k : ClientPath) (t : Task) : Type 0 where
+  pub files : HoldsStand s logs (file_hold x.file)
+  pub pending : HoldsStand s logs (pending_hold k)
+  pub pins : HoldsStand s logs (task_hold t)
+
+-- all that an event of a client may change: what is kept for its path and for the client on it, what the client is in the midst
+-- of, and the logs
+pub record EventKept : Type 0 where
+  pub owned : OwnedPath
   pub client : ClientPath
-  pub beside : slice_get x.clients r ≡ Some client
-  pub sound : AreSound s x.owned client
+  pub task : Task
+  pub logs : List Log
 
--- line n of client r had this answer, and of all that was kept for its path the owner's and the client's parts follow
-pub record FollowsFor (s : Job) (n : ℕ) (op : Op) (r : ℕ) (x y : PathState) (a : Answer) : Type 0 where
+-- how many slots of client r's log are free
+abbrev pub free_in : List Log → ℕ → ℕ
+free_in logs r = length (empty_slots (pieces_of (slice_get logs r)))
+
+-- the logs follow client r's line n, which fills slots or doesn't, and what is kept then is of slots that have its pieces once the
+-- line's own are in theirs
+pub record LogsSettle (s : Job) (n r : ℕ) (fills : Bool) (old new : EventKept) : Type 0 where
+  pub logs : LogsFollow s n r fills (holds_kept old.owned old.client old.task) (holds_kept new.owned new.client new.task) old.logs new.logs
+  pub stand : KeptStand s logs.filled new.owned new.client new.task
+
+-- line n of client r, the operation op, had its event with this answer, if it has one
+pub record EventFollows (s : Job) (n : ℕ) (op : Op) (r : ℕ) (old new : EventKept) (a : Option Answer) : Type 0 where
+  pub event : Event
+  pub is : event ≡ kept_event s old.owned old.client (free_in old.logs r) old.task op
+  pub answer : event.answer ≡ a
+  pub doing : event.doing ≡ doing_of new.task
+  pub kept : FollowsBy s n op old.task event old.owned old.client new.owned new.client a
+  pub settles : LogsSettle s n r event.fills old new
+
+-- only a read is in the midst of its line
+abbrev pub MayBeIn : Op → Task → Type 0
+MayBeIn op Idle = Unit {0}
+MayBeIn op (Read t) = IsSome (asked op)
+
+-- what is kept for a path and a client, and what the client is in the midst of, is whole
+pub record IsWhole (s : Job) (op : Op) (kept : EventKept) : Type 0 where
+  pub sound : AreSound s kept.owned kept.client
+  pub task : IsTask s kept.task
+  pub midst : MayBeIn op kept.task
+
+-- before an event of a read: all is whole, each hold is of a slot that has its piece, and the logs are in memory
+pub record ReadSound (s : Job) (op : Op) (kept : EventKept) : Type 0 where
+  pub whole : IsWhole s op kept
+  pub stand : KeptStand s kept.logs kept.owned kept.client kept.task
+  pub memory : AreInMemory s kept.logs
+
+-- Before the event of line n of client r: all is whole, nothing of the line is kept yet or in a slot, and each hold is of a slot
+-- that has its piece. No piece is in two slots, each slot that has one is held, though not so often that it couldn't be held
+-- once more, and each that has none is free. The logs are in memory, and that of the client is there, under its rank.
+pub record EventSound (s : Job) (n : ℕ) (op : Op) (r : ℕ) (kept : EventKept) : Type 0 where
+  pub whole : IsWhole s op kept
+  pub fresh : (q : Piece) → q.line ≡ n → keeps kept.owned kept.client q ≡ false
+  pub unfilled : (q i : ℕ) (p : StoredPiece) → (slot_in kept.logs q i).piece ≡ Some p → p.id.line ≢ n
+  pub stand : KeptStand s kept.logs kept.owned kept.client kept.task
+  pub once : AreInOneSlot kept.logs
+  pub held : AreHeldSlots kept.logs
+  pub free : AreFreeSlots kept.logs
+  pub few : (q i : ℕ) → (slot_in kept.logs q i).count < 2 ^ 64 - 1
+  pub memory : AreInMemory s kept.logs
+  pub log : r < length kept.logs
+  pub rank : (log : Log) → slice_get kept.logs r ≡ Some log → log.rank ≡ r
+
+-- ---- what is kept at its owner for a path, and by the clients
+
+-- what a list of files or of owners keeps for one path
+abbrev pub Finds : Type 0 → Type 0
+Finds O = O → Option OwnedPath
+
+-- what is found for a path, and client r's part, task and log beside it, is sound for its operation
+pub record IsSoundAt {O : Type 0} (find : Finds O) (s : Job) (n : ℕ) (op : Op) (r : ℕ) (owners : O) (clients : List ClientPath)
+    (tasks : List Task) (logs : List Log) : Type 0 where
+  pub owned : OwnedPath
+  pub there : find owners ≡ Some owned
   pub client : ClientPath
-  pub own : ClientPath
-  pub beside : slice_get x.clients r ≡ Some client
-  pub changed : y.clients ≡ slice_set x.clients r own
-  pub follows : Follows s n op x.owned client y.owned own a
-  pub sound : AreSound s y.owned own
+  pub beside : slice_get clients r ≡ Some client
+  pub task : Task
+  pub midst : slice_get tasks r ≡ Some task
+  pub sound : EventSound s n op r (record { owned = owned; client = client; task = task; logs = logs })
 
--- what is kept at one server for a file, and by client r for its path, is sound
-pub record IsSoundIn (s : Job) (r gfid : ℕ) (p : List ℕ) (owner : OwnerFiles) (clients : List ClientPath) : Type 0 where
-  pub file : OwnedPath
-  pub there : file_in owner gfid p ≡ Some file
-  pub sound : IsSoundFor s r (record { owned = file; clients = clients })
+-- line n of client r, the operation op, had its event, and of what is kept for its path, by the client and of the logs all
+-- follows; `change` says when of the owners' parts that of the path alone changed to this
+pub record FollowsAt {O : Type 0} (find : Finds O) (change : O → O → OwnedPath → Type 0) (s : Job) (n : ℕ) (op : Op) (r : ℕ)
+    (owners owners' : O) (clients clients' : List ClientPath) (tasks tasks' : List Task)
+    (logs logs' : List Log) (a : Option Answer) : Type 0 where
+  pub was : EventKept
+  pub now : EventKept
+  pub there : find owners ≡ Some was.owned
+  pub changes : change owners owners' now.owned
+  pub beside : slice_get clients r ≡ Some was.client
+  pub changed : clients' ≡ slice_set clients r now.client
+  pub midst : slice_get tasks r ≡ Some was.task
+  pub goes_on : tasks' ≡ slice_set tasks r now.task
+  pub logs_were : was.logs ≡ logs
+  pub logs_are : now.logs ≡ logs'
+  pub follows : EventFollows s n op r was now a
+  pub whole : IsWhole s op now
 
--- what is kept at its owner for a path, and by client r, is sound
-pub record IsSoundAt (s : Job) (r : ℕ) (p : List ℕ) (owners : List OwnerFiles) (clients : List ClientPath) : Type 0 where
-  pub file : OwnedPath
-  pub there : owned_at owners p ≡ Some file
-  pub sound : IsSoundFor s r (record { owned = file; clients = clients })
+-- at one server, for the file of a gfid and a path
+abbrev pub finds_file : ℕ → List ℕ → Finds OwnerFiles
+finds_file gfid p owner = file_in owner gfid p
 
--- line n of client r had this answer, and what is kept at one server for a file and by the clients for its path follows
-pub record FollowsIn (s : Job) (n : ℕ) (op : Op) (r gfid : ℕ) (p : List ℕ) (owner owner' : OwnerFiles) (clients clients' : List ClientPath)
-    (a : Answer) : Type 0 where
-  pub was : OwnedPath
-  pub now : OwnedPath
-  pub there : file_in owner gfid p ≡ Some was
-  pub changes : ChangesFile owner owner' gfid p now
-  pub follows : FollowsFor s n op r (record { owned = was; clients = clients }) (record { owned = now; clients = clients' }) a
+abbrev pub changes_file : ℕ → List ℕ → OwnerFiles → OwnerFiles → OwnedPath → Type 0
+changes_file gfid p old new x = ChangesFile old new gfid p x
 
--- the same of what is kept at the path's owner
-pub record FollowsAt (s : Job) (n : ℕ) (op : Op) (r : ℕ) (p : List ℕ) (owners owners' : List OwnerFiles) (clients clients' : List ClientPath)
-    (a : Answer) : Type 0 where
-  pub was : OwnedPath
-  pub now : OwnedPath
-  pub there : owned_at owners p ≡ Some was
-  pub changes : ChangesPath owners owners' p now
-  pub follows : FollowsFor s n op r (record { owned = was; clients = clients }) (record { owned = now; clients = clients' }) a
+-- at the owner of a path
+abbrev pub finds_path : List ℕ → Finds (List OwnerFiles)
+finds_path p owners = owned_at owners p
+
+abbrev pub changes_path : List ℕ → List OwnerFiles → List OwnerFiles → OwnedPath → Type 0
+changes_path p old new x = ChangesPath old new p x

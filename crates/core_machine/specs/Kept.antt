@@ -1,17 +1,29 @@
 -- What the core keeps for a path and for a client on it, as the words of the machine.
-use Rattle.std.specs.Prelude.{◌≡◌, ℕ, false, nat_le, is_some, List, [], length, All, Option, Some, None, Vec, IfSome, if◌then◌else◌}
-use Rattle.fs_script.specs.Vocabulary.{File, Job}
+use Rattle.std.specs.Prelude.{◌≡◌, ℕ, true, false, nat_le, is_some, List, [], length, All, Option, Some, None, Vec, IfSome, if◌then◌else◌}
+use Rattle.piece_table.specs.HeldSpans.{held}
+use Rattle.fs_script.specs.Vocabulary.{File, Job, Mark, Piece, marked_bytes}
 use Rattle.core_machine.specs.declared.noted.Noted.{Noted}
 use Rattle.core_machine.specs.declared.path_state.OwnedPath.{OwnedPath}
 use Rattle.core_machine.specs.declared.path_state.ClientPath.{ClientPath}
-use Rattle.core_machine.specs.declared.file_extents.FileExtents.{FileExtents}
-use Rattle.core_machine.specs.Extents.{AreExtents, IsFileOf, lines_of_extents, bytes_of_extents}
+use Rattle.core_machine.specs.declared.file_spans.FileSpans.{FileSpans}
+use Rattle.core_machine.specs.declared.plain_hold.PlainHold.{PlainHold}
+use Rattle.core_machine.specs.FileSpans.{IsFile, marks_of_file}
+use Rattle.core_machine.specs.PendingWrites.{ArePending, IsNonePending}
 use Rattle.core_machine.specs.Event.{Known, PathNow}
 
--- the file that these extents make, if there is one; nothing freezes it
-abbrev pub file_of : Job → Option FileExtents → File ℕ
-file_of s None = None
-file_of s (Some x) = Some (record { cells = bytes_of_extents s x.extents.items; frozen = false })
+-- the marks of the file, if there is one; nothing freezes it
+abbrev pub file_marks : Option FileSpans → File (Option Mark)
+file_marks None = None
+file_marks (Some f) = Some (record { cells = marks_of_file f; frozen = false })
+
+-- its bytes
+abbrev pub file_of : Job → Option FileSpans → File ℕ
+file_of s f = marked_bytes s (file_marks f)
+
+-- the hold of a piece of the file
+abbrev pub file_hold : Option FileSpans → Piece → Option PlainHold
+file_hold None q = None
+file_hold (Some f) q = (held f.held).hold_of q
 
 -- what is known of the file at a noted version
 abbrev pub known_from : Noted → Known
@@ -21,25 +33,31 @@ known_from n = record { exists = n.exists; frozen = false }
 abbrev pub later_of : Noted → Noted → Noted
 later_of a b = if nat_le b.version a.version then a else b
 
--- the lines of a client's pending writes
+-- the lines of a client's pending writes, and the hold of a piece of them
 abbrev pub pending_lines : ClientPath → List ℕ
-pending_lines k = lines_of_extents k.pending.items
+pending_lines k = k.pending.lines.items
 
--- what an event of a client sees of what is kept for its path
-abbrev pub kept_now : Job → OwnedPath → ClientPath → PathNow
-kept_now s x k = record {
+abbrev pub pending_hold : ClientPath → Piece → Option PlainHold
+pending_hold k q = (held k.pending.held).hold_of q
+
+-- what an event of a client sees of what is kept for its path, and how many slots of its log are free
+abbrev pub kept_now : Job → OwnedPath → ClientPath → ℕ → PathNow
+kept_now s x k free = record {
   file = file_of s x.file;
+  marks = file_marks x.file;
   version = length x.journal.items;
   pending = pending_lines k;
   is_open = k.is_open;
   front = (later_of k.noted x.board).version;
   at_front = known_from (later_of k.noted x.board);
+  free = free;
 }
 
--- the extents of the file, and the pending ones, are writes of the job, and the length that is kept is the file's
+-- the file and the pending writes are whole, and have no piece in common
 pub record AreSound (s : Job) (x : OwnedPath) (k : ClientPath) : Type 0 where
-  pub written : IfSome x.file (IsFileOf s)
-  pub pending : AreExtents s k.pending.items
+  pub written : IfSome x.file IsFile
+  pub pending : ArePending s k.pending
+  pub apart : (q : Piece) → is_some (pending_hold k q) ≡ true → file_hold x.file q ≡ None
 
 -- all that is kept for a path: by its owner, and by each client
 pub record PathState : Type 0 where
@@ -55,7 +73,7 @@ pub record IsFreshOwner (x : OwnedPath) : Type 0 where
 -- the client did nothing
 pub record IsFreshClient (k : ClientPath) : Type 0 where
   pub is_open : k.is_open ≡ false
-  pub pending : k.pending.items ≡ []
+  pub pending : IsNonePending k.pending
   pub noted : k.noted ≡ record { version = 0; exists = false }
 
 -- they are so many clients, none of which did anything

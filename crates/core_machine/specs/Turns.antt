@@ -1,5 +1,5 @@
 -- Whose turn it may be: how far each client has come, and the phase that the run is in.
-use Rattle.std.specs.Prelude.{◌≡◌, ℕ, ◌≤◌, ◌<◌, ◌==◌, Bool, false, List, [], filter, slice_index, slice_set, ◌+◌, Option, Some, None}
+use Rattle.std.specs.Prelude.{◌≡◌, if◌then◌else◌, ℕ, ◌≤◌, ◌<◌, ◌==◌, Bool, false, List, [], filter, slice_index, slice_set, ◌+◌, Option, Some, None}
 use Rattle.std.specs.Prelude.{slice_get}
 use Rattle.std.specs.List.{range_with_len}
 use Rattle.fs_script.specs.Vocabulary.{Job, phase, program}
@@ -18,6 +18,10 @@ next_in v r = slice_get (program v.job r) (slice_index v.places r)
 -- client r has done one more line
 abbrev pub after_line : Places → ℕ → Places
 after_line v r = record v { places = slice_set v.places r (slice_index v.places r + 1) }
+
+-- once an event of client r is over, which ended its line or didn't
+abbrev pub turns_then : Bool → ℕ → Places → Places
+turns_then ended r v = if ended then after_line v r else v
 
 -- whether there is such a line, and it is of phase k
 abbrev pub is_of_phase : Job → ℕ → Option ℕ → Bool

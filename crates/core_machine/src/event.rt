@@ -1,10 +1,9 @@
-//! The events of a run, one module for each operation: the answer to a line, and what is kept after
-//! it.
+//! The events of a run, one module for each operation: the answer to a line, if it has come to its
+//! end, and what is kept after it.
 
 ghost use Rattle.std.specs.Prelude.{◌≡◌, Some, IfOk, OnOk};
 ghost use Rattle.fs_script.specs.Job.{op_at};
-ghost use Rattle.core_machine.specs.Follows.{Follows};
-ghost use Rattle.core_machine.specs.Kept.{AreSound};
+ghost use Rattle.core_machine.specs.Follows.{EventFollows, EventSound, IsWhole};
 
 mod create;
 mod open;
@@ -14,33 +13,42 @@ mod sync;
 mod write;
 
 use crate::path_state::{ClientPath, OwnedPath};
+use crate::task::Task;
+use fs_dev::SpillDev;
 use fs_script::{Op, OpLine, Script};
 use fs_types::{Answer, LineNo, Want};
-pub use read::{digest, shown_bytes};
+use slot_plain::PlainLog;
 use std::alloc::Global;
 
-/// Answers line `n` of a client, of whose path `path` is kept, and `own` for the client. After
-/// want of memory both are open.
-pub fn answer(
+/// One event of line `n`, of whose path `path` is kept, and of whose client `own` and `task`. No
+/// answer means that the line goes on. After want of memory all that is kept is open.
+pub fn event<D: SpillDev + Drop>(
     alloc: Global,
     s: &Script,
     n: LineNo,
     o: &OpLine,
     path: &mut OwnedPath,
     own: &mut ClientPath,
-) -> Result<Answer, Want>
+    task: &mut Task,
+    logs: &mut [PlainLog<D>],
+) -> Result<Option<Answer>, Want>
     requires line { op_at s.now n ≡ Some o.now }
-    requires sound { AreSound s.now path.old own.old }
-    ensures follows { IfOk result
-        (λ a. Follows s.now n o.now.op path.old own.old path.new own.new a) }
-    ensures sound { OnOk result (AreSound s.now path.new own.new) }
+    requires sound { EventSound s.now n o.now.op o.now.rank
+        (record { owned = path.old; client = own.old; task = task.old; logs = logs.old }) }
+    ensures follows { IfOk result (λ a. EventFollows s.now n o.now.op o.now.rank
+        (record { owned = path.old; client = own.old; task = task.old; logs = logs.old })
+        (record { owned = path.new; client = own.new; task = task.new; logs = logs.new }) a) }
+    ensures whole { OnOk result (IsWhole s.now o.now.op
+        (record { owned = path.new; client = own.new; task = task.new; logs = logs.new })) }
 {
     match &o.op {
-        Op::Create => create::create(alloc, n, path, own),
-        Op::Open => Ok(open::open(path, own)),
-        Op::Write { off, text } => write::write(s, n, *off, text, path, own),
-        Op::Sync => sync::sync(s, n, path, own),
-        Op::Read { off, len } => read::read(alloc, s, *off, *len, path, own),
-        Op::Size => Ok(size::size(s, path, own)),
+        Op::Create => Ok(Some(create::create(alloc, n, path, own)?)),
+        Op::Open => Ok(Some(open::open(path, own))),
+        Op::Write { off, text } => Ok(Some(write::write(
+            alloc, s, n, *off, text, o.rank, path, own, logs,
+        )?)),
+        Op::Sync => Ok(Some(sync::sync(alloc, s, n, path, own, logs)?)),
+        Op::Read { off, len } => read::read(alloc, *off, *len, path, own, task, logs),
+        Op::Size => Ok(Some(size::size(path, own))),
     }
 }

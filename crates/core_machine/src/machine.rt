@@ -1,25 +1,28 @@
 //! The core: a job under way, seen as a moment of the machine.
 
-ghost use Rattle.std.specs.Prelude.{◌≡◌, ◌<◌, true, [], map, Contains, IfOk, OnOk, OnErr};
+ghost use Rattle.std.specs.Prelude.{◌≡◌, ◌<◌, ◌≤◌, ◌*◌, true, false, [], length, map, All, Contains, IfOk, OnOk, OnErr};
 ghost use Rattle.fs_script.specs.Grammar.{IsJob};
 ghost use Rattle.fs_script.specs.Report.{file_state_of};
-ghost use Rattle.core_machine.specs.Moment.{IsFirst, ready, events_left, journal, file_now};
+ghost use Rattle.core_machine.specs.EventsLeft.{events_left};
+ghost use Rattle.core_machine.specs.Moment.{IsFirst, ready, journal, file_now};
+ghost use Rattle.core_machine.specs.Slots.{census, count_in};
 ghost use Rattle.core_machine.specs.Step.{step};
 
 use crate::path_table::PathTable;
 use crate::run::{self, Run};
+use fs_dev::SpillDev;
 use fs_script::Script;
-use fs_types::{Answers, FileState, LineNo, Path, Rank, Want};
+use fs_types::{Answers, FileState, LineNo, Path, Rank, SlotLine, Want};
 use std::alloc::Global;
 use std::marker::Model;
 
 /// A job under way. A clause sees the moment that it has come to.
 #[derive(Drop)]
-pub struct Core<'s> {
-    run: Run<'s>,
+pub struct Core<'s, D: SpillDev + Drop> {
+    run: Run<'s, D>,
 }
 
-impl<'s> Model for Core<'s> {
+impl<'s, D: SpillDev + Drop> Model for Core<'s, D> {
     ghost use Rattle.core_machine.specs.Moment.{Moment};
     ghost use Rattle.core_machine.specs.Core.{IsRun, moment};
 
@@ -30,14 +33,16 @@ impl<'s> Model for Core<'s> {
     ghost invariant = { λ c. IsRun c.run };
 }
 
-impl<'s> Core<'s> {
-    /// The run of a script before its first event.
-    pub fn new(alloc: Global, s: &'s Script) -> Result<Core<'s>, Want>
+impl<'s, D: SpillDev + Drop> Core<'s, D> {
+    /// The run of a script before its first event, with a device for each client's log.
+    pub fn new(alloc: Global, s: &'s Script, devices: Vec<D>) -> Result<Core<'s, D>, Want>
+        requires one_each { length devices.items ≡ s.now.shape.clients }
+        requires fit { All (λ d. s.now.shape.spill * s.now.shape.chunk ≤ D.size d) devices.items }
         ensures first { IfOk result (λ c. IsFirst s.now c) }
         ensures job { OnOk result (IsJob s.now) }
     {
         Ok(Core {
-            run: run::first_run(alloc, s)?,
+            run: run::first_run(alloc, s, devices)?,
         })
     }
 
@@ -94,6 +99,31 @@ impl<'s> Core<'s> {
         ensures file { IfOk result (λ f. f ≡ file_state_of (file_now self.old p.now)) }
         ensures same { self.new ≡ self.old }
     {
-        run::file(&self.run, p)
+        run::file(&mut self.run, p)
+    }
+
+    /// The slots of a client's log.
+    pub fn census(&self, r: Rank) -> SlotLine
+        requires going { self.now.spent ≡ false }
+        requires within { r < self.now.job.shape.clients }
+        ensures { result ≡ census self.now r }
+    {
+        run::census(&self.run, r)
+    }
+
+    /// How often the piece in a slot of a client's log is held; 0 where the slot is free.
+    pub fn count(&self, r: Rank, slot: u32) -> u64
+        requires going { self.now.spent ≡ false }
+        requires within { r < self.now.job.shape.clients }
+        ensures { result ≡ count_in self.now r slot }
+    {
+        run::count(&self.run, r, slot)
+    }
+
+    /// The clients' devices, in order, in the vector that `new` was given.
+    pub fn into_devices(self) -> Vec<D>
+        ensures { length result.items ≡ self.entry.job.shape.clients }
+    {
+        run::devices(self.run)
     }
 }

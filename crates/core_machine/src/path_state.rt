@@ -3,30 +3,30 @@
 ghost use Rattle.std.specs.Prelude.{◌≡◌, length, IfOk};
 ghost use Rattle.core_machine.specs.Kept.{IsFreshClient, IsFreshOwner, AreFreshClients, later_of, owner_told};
 
-use crate::extent::Extent;
-use crate::file_extents::FileExtents;
+use crate::file_spans::FileSpans;
 use crate::noted::Noted;
+use crate::pending::Pending;
 use fs_types::{LineNo, Version, Want};
 use std::alloc::Global;
 
 /// A path's journal and file at its owner, and what all clients were told of it.
-#[derive(Debug, Drop)]
+#[derive(Drop)]
 pub struct OwnedPath {
     /// The committing lines, in the owner's order.
     pub journal: Vec<LineNo>,
-    /// The extents that were committed; `None` where there is no file.
-    pub file: Option<FileExtents>,
+    /// What was committed; `None` where there is no file.
+    pub file: Option<FileSpans>,
     /// The version at the end of the last phase.
     pub board: Noted,
 }
 
 /// What a client keeps for a path.
-#[derive(Debug, Drop)]
+#[derive(Drop)]
 pub struct ClientPath {
     /// Whether the client has opened the path.
     pub is_open: bool,
-    /// Accepted writes that weren't committed yet, later ones over earlier.
-    pub pending: Vec<Extent>,
+    /// Accepted writes that weren't committed yet.
+    pub pending: Pending,
     /// The greatest version that the client has seen.
     pub noted: Noted,
 }
@@ -74,7 +74,7 @@ impl ClientPath {
     {
         ClientPath {
             is_open: false,
-            pending: Vec::new(alloc),
+            pending: Pending::new(alloc),
             noted: UNSEEN,
         }
     }

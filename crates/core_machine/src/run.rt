@@ -1,36 +1,42 @@
 //! What a run keeps, and its events: each is one of the machine of moments.
 
-ghost use Rattle.std.specs.Prelude.{◌≡◌, ℕ, ◌+◌, ◌<◌, true, false, Some, None, slice_get, [], ◌∷◌, length, map, Contains, All, IsSome, IfSome, IfNone, IfOk, OnOk, OnErr};
+ghost use Rattle.std.specs.Prelude.{◌≡◌, ◌*◌, ◌<◌, ◌≤◌, true, false, Some, slice_get, length, map, Contains, All, IsSome, IfOk, OnOk, OnErr};
 ghost use Rattle.fs_script.specs.Job.{op_at};
 ghost use Rattle.fs_script.specs.Grammar.{IsJob};
-ghost use Rattle.fs_script.specs.Report.{AreRising, file_state_of, journal_of};
-ghost use Rattle.core_machine.specs.Moment.{IsFirst, ready, events_left, journal, file_now};
+ghost use Rattle.core_machine.specs.EventsLeft.{events_left};
+ghost use Rattle.core_machine.specs.Moment.{IsFirst, ready};
 ghost use Rattle.core_machine.specs.Step.{step};
 ghost use Rattle.core_machine.specs.Kept.{AreFreshClients};
-ghost use Rattle.core_machine.specs.Follows.{FollowsAt, FollowsIn, IsSoundAt, IsSoundIn};
+ghost use Rattle.core_machine.specs.Follows.{FollowsAt, IsSoundAt, changes_file, changes_path, finds_file, finds_path};
 ghost use Rattle.core_machine.specs.OwnerFiles.{ChangesOne, ChangesOnePath, owned_at};
 ghost use Rattle.core_machine.specs.PathStates.{AreKept, states_of};
-ghost use Rattle.core_machine.specs.Turns.{going};
-ghost use Rattle.core_machine.specs.MomentKept.{journals_of, moment_of};
-ghost use Rattle.core_machine.specs.Turns.{after_line};
+ghost use Rattle.core_machine.specs.Turns.{after_line, going, turns_then, IsInPhase};
+ghost use Rattle.core_machine.specs.MomentKept.{moment_of};
+ghost use Rattle.core_machine.specs.Logs.{device_state};
 ghost use Rattle.core_machine.specs.Standing.{Holds};
 ghost use Rattle.core_machine.specs.Core.{IsRun, moment, states};
 
+mod report;
+
 use crate::event;
-use crate::file_state::file_state;
+use crate::logs::new_logs;
 use crate::owner_files::{FileName, OwnerFiles};
-use crate::owners::{owned, owners_of, tell_all};
-use crate::path_state::{ClientPath, OwnedPath, fresh_clients};
+use crate::owners::{owners_of, tell_all};
+use crate::path_state::{ClientPath, fresh_clients};
 use crate::path_table::PathTable;
+use crate::task::{Task, idle_tasks};
 use crate::turns::Turns;
+use fs_dev::SpillDev;
 use fs_script::{Line, OpLine, Script};
-use fs_types::{Answer, Answers, FileState, LineNo, Path, Rank, Want};
+use fs_types::{Answer, Answers, LineNo, Path, Rank, Want};
 use placement::{gfid_of, owner_of};
+pub use report::{census, count, devices, file, journal};
+use slot_plain::PlainLog;
 use std::alloc::Global;
 
 /// What a run keeps. Before memory runs out it stands for a moment of the machine.
 #[derive(Drop)]
-pub struct Run<'s> {
+pub struct Run<'s, D: SpillDev + Drop> {
     pub alloc: Global,
     pub script: &'s Script,
     pub paths: PathTable,
@@ -38,6 +44,12 @@ pub struct Run<'s> {
     pub owners: Vec<OwnerFiles>,
     /// For each path, at its place in the table, what each client keeps for it, by rank.
     pub clients: Vec<Vec<ClientPath>>,
+    /// What each client is in the midst of, by rank.
+    pub tasks: Vec<Task>,
+    /// The log of each client, by rank.
+    pub logs: Vec<PlainLog<D>>,
+    /// No device, with room for those of the logs.
+    pub devices: Vec<D>,
     pub answers: Answers,
     pub turns: Turns<'s>,
     /// Memory ran out.
@@ -78,16 +90,27 @@ fn place(paths: &PathTable, p: &Path) -> usize
     }
 }
 
-/// The run of a script before its first event.
-pub fn first_run(alloc: Global, s: &Script) -> Result<Run<'_>, Want>
+/// The run of a script before its first event, with a device for each client's log.
+pub fn first_run<'s, D: SpillDev + Drop>(
+    alloc: Global,
+    s: &'s Script,
+    devices: Vec<D>,
+) -> Result<Run<'s, D>, Want>
+    requires one_each { length devices.items ≡ s.now.shape.clients }
+    requires fit { All (λ d. s.now.shape.spill * s.now.shape.chunk ≤ D.size d) devices.items }
     ensures run { IfOk result IsRun }
     ensures first { IfOk result (λ r. IsFirst s.now (moment r)) }
     ensures job { OnOk result (IsJob s.now) }
+    ensures devices { IfOk result (λ r. map (λ log. log.device) r.logs.items
+        ≡ map (λ d. device_state (D.size d) (D.cells d) (D.faults d)) devices.items) }
 {
     let shape = s.shape();
     let paths = PathTable::of_script(alloc, s)?;
     let owners = owners_of(alloc, shape.servers, &paths)?;
     let clients = fresh_clients_of(alloc, paths.len(), shape.clients)?;
+    let tasks = idle_tasks(alloc, shape.clients)?;
+    let mut room = devices;
+    let logs = new_logs(alloc, s, &mut room)?;
     let answers = Answers::new(alloc, s.lines())?;
     let turns = Turns::new(alloc, s)?;
     Ok(Run {
@@ -96,15 +119,18 @@ pub fn first_run(alloc: Global, s: &Script) -> Result<Run<'_>, Want>
         paths,
         owners,
         clients,
+        tasks,
+        logs,
+        devices: room,
         answers,
         turns,
         spent: false,
     })
 }
 
-// Answers line `n` of client `r` at its path's owner. After want of memory what is kept for the
-// path is open.
-fn answer_at_owner(
+// The event of line `n` at its path's owner. After want of memory what is kept for the path and for
+// the client, and the logs, are open.
+fn event_at_owner<D: SpillDev + Drop>(
     alloc: Global,
     s: &Script,
     n: LineNo,
@@ -112,103 +138,115 @@ fn answer_at_owner(
     gfid: u64,
     owner: &mut OwnerFiles,
     clients: &mut [ClientPath],
-    r: Rank,
-) -> Result<Answer, Want>
+    tasks: &mut [Task],
+    logs: &mut [PlainLog<D>],
+) -> Result<Option<Answer>, Want>
     requires line { op_at s.now n ≡ Some o.now }
-    requires sound { IsSoundIn s.now r gfid o.now.path owner.old clients.old }
+    requires sound { IsSoundAt (finds_file gfid o.now.path) s.now n o.now.op o.now.rank
+        owner.old clients.old tasks.old logs.old }
     ensures changes { ChangesOne owner.old owner.new gfid o.now.path }
-    ensures follows { IfOk result (λ a. FollowsIn s.now n o.now.op r gfid o.now.path
-        owner.old owner.new clients.old clients.new a) }
+    ensures follows { IfOk result (λ a. FollowsAt (finds_file gfid o.now.path)
+        (changes_file gfid o.now.path) s.now n o.now.op o.now.rank owner.old owner.new
+        clients.old clients.new tasks.old tasks.new logs.old logs.new a) }
 {
+    let r = o.rank;
     let at = r.0 as usize;
     let own = &mut clients[at];
+    let task = &mut tasks[at];
     let path = o.path.as_bytes();
     match owner.files.get_mut(FileName { gfid, path }) {
-        Some(file) => event::answer(alloc, s, n, o, file, own),
+        Some(file) => event::event(alloc, s, n, o, file, own, task, logs),
         None => unreachable!(),
     }
 }
 
-// Answers line `n` of client `r`, for whose path the clients keep this. After want of memory what
-// is kept for the path is open.
-fn answer_on_path(
+// The event of line `n`, for whose path the clients keep this. After want of memory what is kept
+// for the path and for the client, and the logs, are open.
+fn event_on_path<D: SpillDev + Drop>(
     alloc: Global,
     s: &Script,
     n: LineNo,
     o: &OpLine,
     owners: &mut [OwnerFiles],
     clients: &mut [ClientPath],
-    r: Rank,
-) -> Result<Answer, Want>
+    tasks: &mut [Task],
+    logs: &mut [PlainLog<D>],
+) -> Result<Option<Answer>, Want>
     requires line { op_at s.now n ≡ Some o.now }
     requires servers { length owners.old ≡ s.now.shape.servers }
-    requires sound { IsSoundAt s.now r o.now.path owners.old clients.old }
+    requires sound { IsSoundAt (finds_path o.now.path) s.now n o.now.op o.now.rank
+        owners.old clients.old tasks.old logs.old }
     ensures changes { ChangesOnePath owners.old owners.new o.now.path }
-    ensures follows { IfOk result (λ a. FollowsAt s.now n o.now.op r o.now.path
-        owners.old owners.new clients.old clients.new a) }
+    ensures follows { IfOk result (λ a. FollowsAt (finds_path o.now.path)
+        (changes_path o.now.path) s.now n o.now.op o.now.rank owners.old owners.new
+        clients.old clients.new tasks.old tasks.new logs.old logs.new a) }
 {
     let gfid = gfid_of(&o.path);
     let owner = owner_of(gfid, s.shape().servers);
-    answer_at_owner(
-        alloc,
-        s,
-        n,
-        o,
-        gfid,
-        &mut owners[owner.0 as usize],
-        clients,
-        r,
-    )
+    let files = &mut owners[owner.0 as usize];
+    event_at_owner(alloc, s, n, o, gfid, files, clients, tasks, logs)
 }
 
-// Answers the next line of a client that goes. After want of memory what is kept for that line's
-// path is open.
-fn answer_line(
+// One event of the next line of a client that goes; whether the line was answered. After want of
+// memory what is kept for that line's path and for the client, and the logs, are open.
+fn event_of_line<D: SpillDev + Drop>(
     alloc: Global,
     s: &Script,
     paths: &PathTable,
     owners: &mut [OwnerFiles],
     clients: &mut [Vec<ClientPath>],
+    tasks: &mut [Task],
+    logs: &mut [PlainLog<D>],
     answers: &mut Answers,
     turns: &Turns<'_>,
     r: Rank,
-) -> Result<(), Want>
+) -> Result<bool, Want>
     requires kept { AreKept s.now.shape.servers paths.now owners.old clients.old }
     requires holds { Holds s.now paths.now (states_of (owned_at owners.old) paths.now clients.old)
-        answers.old turns.now }
+        answers.old turns.now tasks.old logs.old }
     requires going { Contains (going turns.now) r }
     ensures kept { AreKept s.now.shape.servers paths.now owners.new clients.new }
-    ensures holds { OnOk result
-        (Holds s.now paths.now (states_of (owned_at owners.new) paths.now clients.new)
-        answers.new (after_line turns.now r)) }
-    ensures step { OnOk result
-        (moment_of s.now paths.now (states_of (owned_at owners.new) paths.now clients.new)
-        answers.new (after_line turns.now r) false
+    ensures sized { length logs.new ≡ length logs.old }
+    ensures holds { IfOk result (λ ended.
+        Holds s.now paths.now (states_of (owned_at owners.new) paths.now clients.new)
+        answers.new (turns_then ended r turns.now) tasks.new logs.new) }
+    ensures step { IfOk result (λ ended.
+        moment_of s.now paths.now (states_of (owned_at owners.new) paths.now clients.new)
+        answers.new (turns_then ended r turns.now) tasks.new logs.new false
         ≡ step (moment_of s.now paths.now (states_of (owned_at owners.old) paths.now clients.old)
-        answers.old turns.now false) (record { client = r })) }
+        answers.old turns.now tasks.old logs.old false) (record { client = r })) }
 {
     let n = turns.next(r);
     let o = operation(s, n);
     let i = place(paths, &o.path);
-    let answer = answer_on_path(alloc, s, n, o, owners, &mut clients[i], r)?;
-    answers.set(n, answer);
-    Ok(())
+    match event_on_path(alloc, s, n, o, owners, &mut clients[i], tasks, logs)? {
+        Some(answer) => {
+            answers.set(n, answer);
+            Ok(true)
+        }
+        None => Ok(false),
+    }
 }
 
 // Goes on to the next line of a client, and where that begins a phase, tells all clients of every
 // path.
-fn go_on(run: &mut Run<'_>, r: Rank)
+fn go_on<D: SpillDev + Drop>(run: &mut Run<'_, D>, r: Rank)
     requires kept { AreKept run.old.script.now.shape.servers run.old.paths run.old.owners.items
         run.old.clients.items }
     requires going { Contains (going run.old.turns) r }
     requires holds { Holds run.old.script.now run.old.paths (states run.old) run.old.answers
-        (after_line run.old.turns r) }
+        (after_line run.old.turns r) run.old.tasks.items run.old.logs.items }
     requires unspent { run.old.spent ≡ false }
-    ensures run { IsRun run.new }
+    ensures kept { AreKept run.new.script.now.shape.servers run.new.paths run.new.owners.items
+        run.new.clients.items }
+    ensures phases { IsInPhase run.new.turns }
+    ensures holds { Holds run.new.script.now run.new.paths (states run.new) run.new.answers
+        run.new.turns run.new.tasks.items run.new.logs.items }
     ensures unspent { run.new.spent ≡ false }
     ensures moment { moment run.new
         ≡ moment_of run.old.script.now run.old.paths (states run.old) run.old.answers
-        (after_line run.old.turns r) false }
+        (after_line run.old.turns r) run.old.tasks.items run.old.logs.items false }
+    ensures rest { run.new ≡ record run.old { owners = run.new.owners; turns = run.new.turns } }
 {
     if run.turns.advance(r) {
         tell_all(&mut run.owners);
@@ -216,7 +254,7 @@ fn go_on(run: &mut Run<'_>, r: Rank)
 }
 
 /// One event of a client that is ready.
-pub fn advance(run: &mut Run<'_>, r: Rank) -> Result<(), Want>
+pub fn advance<D: SpillDev + Drop>(run: &mut Run<'_, D>, r: Rank) -> Result<(), Want>
     requires run { IsRun run.old }
     requires ready { Contains (ready (moment run.old)) r }
     ensures run { IsRun run.new }
@@ -224,20 +262,23 @@ pub fn advance(run: &mut Run<'_>, r: Rank) -> Result<(), Want>
     ensures nearer { OnOk result (events_left (moment run.new) < events_left (moment run.old)) }
     ensures spent { OnErr result (run.new.spent ≡ true) }
 {
-    match answer_line(
+    match event_of_line(
         run.alloc,
         run.script,
         &run.paths,
         &mut run.owners,
         &mut run.clients,
+        &mut run.tasks,
+        &mut run.logs,
         &mut run.answers,
         &run.turns,
         r,
     ) {
-        Ok(()) => {
+        Ok(true) => {
             go_on(run, r);
             Ok(())
         }
+        Ok(false) => Ok(()),
         Err(e) => {
             run.spent = true;
             Err(e)
@@ -246,49 +287,9 @@ pub fn advance(run: &mut Run<'_>, r: Rank) -> Result<(), Want>
 }
 
 /// The clients that may go: none once memory ran out.
-pub fn ready<'r>(run: &'r Run<'_>) -> &'r [Rank]
+pub fn ready<'r, D: SpillDev + Drop>(run: &'r Run<'_, D>) -> &'r [Rank]
     requires { IsRun run.now }
     ensures { result.now ≡ ready (moment run.now) }
 {
     if run.spent { &[] } else { run.turns.ready() }
-}
-
-// What its owner keeps for a path that the script names.
-fn kept<'r>(run: &'r Run<'_>, p: &Path) -> Option<&'r OwnedPath>
-    requires { AreKept run.now.script.now.shape.servers run.now.paths run.now.owners.items
-        run.now.clients.items }
-    ensures there { IfSome result (λ x. owned_at run.now.owners.items p.now ≡ Some x.now) }
-    ensures named { IfSome result (λ _. Contains run.now.paths p.now) }
-    ensures absent { IfNone result (Contains run.now.paths p.now → ⊥) }
-    ensures rising { AreRising run.now.paths }
-{
-    run.paths.index_of(p)?;
-    owned(&run.owners, run.script.shape().servers, p)
-}
-
-/// The journal of a path, empty where the script doesn't name it.
-#[tactic(auto, using(crate::proofs::Refines::Reads::kept_reads))]
-pub fn journal<'r>(run: &'r Run<'_>, p: &Path) -> &'r [LineNo]
-    requires { IsRun run.now }
-    ensures { result.now ≡ journal (moment run.now) p.now }
-{
-    match kept(run, p) {
-        Some(path) => &path.journal,
-        None => &[],
-    }
-}
-
-/// The file of a path. Once memory ran out what is kept is open, and the answer is the same want.
-#[tactic(auto, using(crate::proofs::Refines::Reads::kept_reads))]
-pub fn file(run: &Run<'_>, p: &Path) -> Result<FileState, Want>
-    requires { IsRun run.now }
-    ensures { IfOk result (λ f. f ≡ file_state_of (file_now (moment run.now) p.now)) }
-{
-    if run.spent {
-        return Err(Want);
-    }
-    match kept(run, p) {
-        Some(path) => file_state(run.alloc, run.script, path),
-        None => Ok(FileState::Gone),
-    }
 }

@@ -1,6 +1,7 @@
 //! Whose turn it may be: the clients whose next line is of the phase that the run is in.
 
-ghost use Rattle.std.specs.Prelude.{◌≡◌, ◌<◌, ◌≤◌, ◌+◌, false, [], Contains, IsTrue, Some, IfNone, IfSome, IfOk, OnOk, replicate, slice_index, slice_set, vec_capacity};
+ghost use Rattle.std.specs.Prelude.{◌≡◌, ◌<◌, ◌≤◌, ◌+◌, false, [], Contains, IsTrue, Some};
+ghost use Rattle.std.specs.Prelude.{IfNone, IfSome, IfOk, OnOk, replicate, slice_index, slice_set, vec_capacity};
 ghost use Rattle.fs_script.specs.Job.{phase};
 ghost use Rattle.core_machine.specs.Turns.{next_in, going, IsInPhase};
 ghost use Rattle.core_machine.specs.Program.{next_phases, IsLeast, ArePrograms, places_of};

@@ -95,12 +95,12 @@ without_lines (j ∷ js) all =
 
 -- moments with the same parts are one
 same_parts : (m n : Moment) → m.job ≡ n.job → m.clients ≡ n.clients → m.answers ≡ n.answers → m.journals ≡ n.journals
-    → m.spent ≡ n.spent → m ≡ n
-same_parts m n job clients answers journals spent =
+    → m.logs ≡ n.logs → m.spent ≡ n.spent → m ≡ n
+same_parts m n job clients answers journals logs spent =
     ap (λ x. record m { job = x }) job ∙ ap (λ x. record m { job = n.job; clients = x }) clients
     ∙ ap (λ x. record m { job = n.job; clients = n.clients; answers = x }) answers
-    ∙ ap (λ x. record n { journals = x; spent = m.spent }) journals
-    ∙ ap (λ x. record n { spent = x }) spent
+    ∙ ap (λ x. record n { journals = x; logs = m.logs; spent = m.spent }) journals
+    ∙ ap (λ x. record n { logs = x; spent = m.spent }) logs ∙ ap (λ x. record n { spent = x }) spent
 
 pub one_first : (s : Job) (m n : Moment) → IsFirst s m → IsFirst s n → m ≡ n
 one_first s m n first other =
@@ -108,4 +108,4 @@ one_first s m n first other =
     let journals = without_lines m.journals first.journals ∙ ap (map (λ p. (p, []))) paths ∙ sym (without_lines n.journals
     other.journals) in
     same_parts m n (first.job ∙ sym other.job) (first.clients ∙ sym other.clients) (first.answers ∙ sym other.answers)
-    journals (first.spent ∙ sym other.spent)
+    journals (first.logs ∙ sym other.logs) (first.spent ∙ sym other.spent)

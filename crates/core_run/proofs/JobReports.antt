@@ -45,8 +45,9 @@ files-push m n v w r i same more so_far here state =
 
 -- the parts of a job's report are those of its last moment
 pub report_view-is : (m : Moment) (r : kept.Report)
-    → r.answers.list ≡ m.answers → r.journals ≡ m.journals → r.files ≡ (report_of m).files → report_of m ≡ report_view r
-report_view-is m r answers journals files = rw (answers, journals, files) refl
+    → r.answers.list ≡ m.answers → r.journals ≡ m.journals → r.files ≡ (report_of m).files → r.slots ≡ (report_of m).slots
+    → report_of m ≡ report_view r
+report_view-is m r answers journals files slots = rw (answers, journals, files, slots) refl
 
 -- and there are as many files as journals
 pub as_many_files : (m : Moment) (js : List (List ℕ × List ℕ)) (fs : List (List ℕ × FileState)) → js ≡ m.journals → fs ≡ (report_of m).files

@@ -4,3 +4,6 @@ mod FirstMoments
 mod OneReport
 mod PickLemmas
 mod PickCases
+mod ExactSlots
+pub mod NoSpaceReports
+mod SlotCounts

@@ -1,10 +1,13 @@
 -- Picks at single seeds, and a job of two clients under two lists of picks, worked out by hand.
-use Rattle.std.proofs.Common.{◌≡◌, [], ◌∷◌, List, ℕ, Some, None, false, refl}
+use Rattle.std.proofs.Common.{◌≡◌, [], ◌∷◌, List, ℕ, Option, Some, None, false, map, refl}
 use Rattle.fs_types.specs.declared.answer.Answer.{Answer}
 use Rattle.fs_types.specs.declared.answer.Answer.TheVariants as answers
+use Rattle.fs_script.specs.Vocabulary.{Piece, SlotLine}
 use Rattle.fs_script.proofs.CallerLemmas.{path_a}
 use Rattle.core_machine.specs.Moment.{Moment, fresh_client, ready}
 use Rattle.core_machine.proofs.TwoClients.{two_clients}
+use Rattle.core_machine.specs.MomentReport.{report_of}
+use Rattle.core_run.specs.ExactSlots.{exact_slots}
 use Rattle.core_run.specs.Picks.{first_picks}
 use Rattle.core_run.specs.PickedRun.{picked, moment_after}
 
@@ -24,12 +27,16 @@ second_of_two = refl
 none_of_none : picked 5 [] ≡ None
 none_of_none = refl
 
+abbrev empty_log : List (Option Piece)
+empty_log = None ∷ None ∷ None ∷ None ∷ []
+
 abbrev start : Moment
 start = record {
   job = two_clients;
   clients = fresh_client ∷ fresh_client ∷ [];
   answers = [];
   journals = (path_a, []) ∷ [];
+  logs = empty_log ∷ empty_log ∷ [];
   spent = false;
 }
 
@@ -51,3 +58,16 @@ ended = refl
 -- from then on the run stays
 stays : (moment_after (0 ∷ 1 ∷ []) start 6).answers ≡ found_at 1
 stays = refl
+
+-- ---- slots
+
+-- in the end client 0 has one live piece, and client 1 has none
+abbrev slots_in_the_end : List SlotLine
+slots_in_the_end =
+    record { rank = 0; held = 1; free = 3; faults = 0 } ∷ record { rank = 1; held = 0; free = 4; faults = 0 } ∷ []
+
+slots_reported : (report_of (moment_after (0 ∷ 1 ∷ []) start 4)).slots ≡ slots_in_the_end
+slots_reported = refl
+
+slots_exact : map (exact_slots two_clients (report_of (moment_after (0 ∷ 1 ∷ []) start 4))) (0 ∷ 1 ∷ []) ≡ slots_in_the_end
+slots_exact = refl

@@ -1,6 +1,6 @@
 -- Runs that go on by one event, and the journals that they leave.
 use Rattle.std.proofs.Common.{◌≡◌, ℕ, zero, suc, ◌%◌, false, cond, List, [], ◌∷◌, ◌++◌, length, map, Option, Some, None}
-use Rattle.std.proofs.Common.{refl, sym, ap, subst, ◌∙◌}
+use Rattle.std.proofs.Common.{refl, sym, ap, subst, ◌∙◌, arith}
 use Rattle.std.specs.List.{slice_get, Contains}
 use Rattle.std.specs.Str.{bytes_eq}
 use Rattle.std.proofs.lemmas.Option.{same_Some, slice_get_within, get_or_from_slice_get}
@@ -8,13 +8,13 @@ use Rattle.fs_script.specs.Grammar.{IsJob}
 use Rattle.fs_script.specs.Report.{Report, AreRising, journal_of, IsLegal}
 use Rattle.fs_script.proofs.CallerLemmas.{IsOpLine-from_job}
 use Rattle.fs_script.proofs.CallerLemmas.{not_among, same_bytes, other_bytes}
-use Rattle.fs_script.specs.declared.line.OpLine.{OpLine}
-use Rattle.fs_script.specs.Job.{Job, op_at}
-use Rattle.core_machine.specs.Moment.{Moment, IsFirst, ready, next_line}
-use Rattle.core_machine.specs.Step.{Turn, step, step_at, step_line}
-use Rattle.core_machine.specs.LegalSoFar.{HasClients, Reaches}
+use Rattle.fs_script.specs.Job.{Job}
+use Rattle.core_machine.specs.Moment.{Moment, IsFirst, ready}
+use Rattle.core_machine.specs.Step.{Turn, step}
+use Rattle.core_machine.specs.LegalSoFar.{HasClients, CanRun, Reaches}
 use Rattle.core_machine.specs.RunLaws.{RunsAreLegal}
 use Rattle.core_machine.specs.MomentReport.{report_of}
+use Rattle.core_machine.proofs.Legal.Reached.{Reaches-job, Reaches-unspent}
 use Rattle.core_run.specs.PickedRun.{pick_at, picked, after_turn_of, moment_after, IsRunUnder, IsReportUnder}
 
 -- a run and one more turn
@@ -23,23 +23,13 @@ pub Reaches-push : (m n : Moment) (turns : List Turn) (t : Turn) → Reaches m t
 Reaches-push m n [] t run waits = (subst (λ (k : Moment). Contains (ready k) t.client) (sym run) waits, ap (λ (k : Moment). step k t) run)
 Reaches-push m n (first ∷ turns) t run waits = (run.0, Reaches-push (step m first) n turns t run.1 waits)
 
-unspent_line : (m : Moment) (r n : ℕ) (o : Option OpLine) → m.spent ≡ false → (step_line m r n o).spent ≡ false
-unspent_line m r n None unspent = unspent
-unspent_line m r n (Some o) unspent = refl
-
-unspent_at : (m : Moment) (r : ℕ) (n : Option ℕ) → m.spent ≡ false → (step_at m r n).spent ≡ false
-unspent_at m r None unspent = unspent
-unspent_at m r (Some n) unspent = unspent_line m r n (op_at m.job n) unspent
-
--- a run of events never runs out of memory
-pub Reaches-unspent : (m n : Moment) (turns : List Turn) → Reaches m turns n → m.spent ≡ false → n.spent ≡ false
-Reaches-unspent m n [] run unspent = ap (λ (k : Moment). k.spent) (sym run) ∙ unspent
-Reaches-unspent m n (t ∷ turns) run unspent = Reaches-unspent (step m t) n turns run.1 (unspent_at m t.client (next_line m t.client)
-    unspent)
-
 -- the operations of a job are of its clients
-pub HasClients-job : (s : Job) → IsJob s → HasClients s
+HasClients-job : (s : Job) → IsJob s → HasClients s
 HasClients-job s job n o is = (IsOpLine-from_job s n o job is).rank
+
+-- so a job can be run
+pub CanRun-job : (s : Job) → IsJob s → CanRun s
+CanRun-job s job = record { clients = HasClients-job s job; chunk = omega (arith, job.shape.chunk_least) }
 
 -- a run and one more turn, if a client has it
 Reaches-turn : (m n : Moment) (o : Option ℕ) (i : ℕ) → slice_get (ready n) i ≡ o
@@ -50,20 +40,37 @@ Reaches-turn m n (Some r) i at run =
     let t : Turn = record { client = r } in (run.0 ++ t ∷ [], Reaches-push m n run.0 t run.1 waits)
 
 -- what a run under picks comes to is reached by some turns
-Reaches-moment_after : (picks : List ℕ) (m : Moment) (k : ℕ) → (turns : List Turn) × Reaches m turns (moment_after picks m k)
+pub Reaches-moment_after : (picks : List ℕ) (m : Moment) (k : ℕ) → (turns : List Turn) × Reaches m turns (moment_after picks m k)
 Reaches-moment_after picks m zero = ([], refl)
 Reaches-moment_after picks m (suc k) =
     let n = moment_after picks m k in
     let pick = pick_at picks k in
     Reaches-turn m n (picked pick (ready n)) (pick % length (ready n)) refl (Reaches-moment_after picks m k)
 
--- so its report is legal
-pub IsLegal-run : {picks : List ℕ} {s : Job} {m n : Moment} (told : List ℕ)
-    → RunsAreLegal → IsJob s → IsFirst s m → IsRunUnder picks m n → IsLegal s (report_of n) told
-IsLegal-run {picks = picks} {s = s} {m = m} {n = n} told legal job first run =
+-- so there are turns by which a run under picks comes to its end
+pub record IsReached (m n : Moment) : Type 0 where
+  pub turns : List Turn
+  pub reaches : Reaches m turns n
+  pub unspent : n.spent ≡ false
+  pub job : n.job ≡ m.job
+
+pub IsReached-run : {picks : List ℕ} {s : Job} {m n : Moment} → IsFirst s m → IsRunUnder picks m n → IsReached m n
+IsReached-run {picks = picks} {m = m} {n = n} first run =
     let turns = Reaches-moment_after picks m run.events in
     let reaches = subst (λ (x : Moment). Reaches m turns.0 x) (sym run.goes) turns.1 in
-    legal told s m n turns.0 (HasClients-job s job) first reaches run.ended (Reaches-unspent m n turns.0 reaches first.spent)
+    record {
+      turns = turns.0;
+      reaches = reaches;
+      unspent = Reaches-unspent m n turns.0 reaches first.spent;
+      job = Reaches-job m n turns.0 reaches;
+    }
+
+-- and its report is legal
+pub IsLegal-run : {picks : List ℕ} {s : Job} {m n : Moment} (told : List ℕ)
+    → RunsAreLegal → IsJob s → IsFirst s m → IsRunUnder picks m n → IsLegal s (report_of n) told
+IsLegal-run {s = s} {m = m} {n = n} told legal job first run =
+    let reached = IsReached-run first run in
+    legal told s m n reached.turns (CanRun-job s job) first reached.reaches run.ended
 
 pub IsLegal-under : {picks : List ℕ} {s : Job} {report : Report} (told : List ℕ)
     → RunsAreLegal → IsJob s → IsReportUnder picks s report → IsLegal s report told

@@ -1,3 +1,4 @@
+pub mod ExactSlots
 pub mod Picks
 pub mod PickedRun
 pub mod PathReport

@@ -2,10 +2,12 @@
 //! in which each pick chooses whose turn an event is. It touches nothing outside memory.
 #![tactic(auto)]
 
+mod fault;
 mod laws;
 mod picks;
 mod run;
 
-pub use laws::one_report_under;
+pub use fault::RunFault;
+pub use laws::{one_report_under, reported_no_space_was_true, runs_under_picks_are_reached};
 pub use picks::{MULTIPLIER, PICK_COUNT, picks_of};
 pub use run::simulate;

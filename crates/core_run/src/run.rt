@@ -1,17 +1,20 @@
 //! Running a job to its end, and what it reports then.
 
-ghost use Rattle.std.specs.Prelude.{◌≡◌, ℕ, ◌<◌, List, [], ◌∷◌, ◌++◌, length, map, slice_get, unwrap_or, Some, Contains, IfNone, IfOk, OnOk};
+ghost use Rattle.std.specs.Prelude.{◌≡◌, ℕ, ◌<◌, List, [], ◌∷◌, ◌++◌, length, map, replicate, slice_get, unwrap_or, false, Some, Contains, IfNone, IfOk, OnOk};
 ghost use Rattle.fs_types.specs.PathText.{IsPath};
 ghost use Rattle.fs_script.specs.Report.{AreRising, IsLegal, file_state_of};
 ghost use Rattle.core_machine.specs.Moment.{file_now};
 ghost use Rattle.core_machine.specs.MomentReport.{report_of};
 ghost use Rattle.fs_report.specs.ReportView.{report_view};
+ghost use Rattle.core_run.specs.ExactSlots.{AreExactSlots};
 ghost use Rattle.core_run.specs.PathReport.{journal_entry, file_entry};
 ghost use Rattle.core_run.specs.PickedRun.{picked, IsRunUnder, IsReportUnder};
 
-use core_machine::{Core, runs_are_legal};
+use crate::fault::RunFault;
+use core_machine::{Core, held_is_exact, runs_are_legal};
+use fs_dev::{CalmDev, Host};
 use fs_plain::Journals;
-use fs_report::{FileList, Report};
+use fs_report::{FileList, JobEnd, Report, SlotList};
 use fs_script::Script;
 use fs_types::{FileState, LineNo, Path, PathFault, Rank, Want};
 use std::alloc::Global;
@@ -43,7 +46,7 @@ fn picked_client(ready: &[Rank], pick: u32) -> Option<Rank>
 }
 
 // Gives each turn to the client that the next pick chooses until none is ready. The picks go round.
-fn run_to_end(core: &mut Core<'_>, picks: &[u32]) -> Result<(), Want>
+fn run_to_end(core: &mut Core<'_, CalmDev>, picks: &[u32]) -> Result<(), Want>
     ensures { OnOk result (IsRunUnder picks.now core.old core.new) }
 {
     let mut at = 0;
@@ -67,7 +70,7 @@ fn known_path(alloc: Global, bytes: &[u8]) -> Result<Path, Want>
 }
 
 // What the run reports of the path at place `i` of the byte order.
-fn path_report(alloc: Global, core: &mut Core<'_>, i: usize) -> Result<PathReport, Want>
+fn path_report(alloc: Global, core: &mut Core<'_, CalmDev>, i: usize) -> Result<PathReport, Want>
     requires within { i < length core.old.journals }
     requires rising { AreRising (map (λ j. j.0) core.old.journals) }
     requires paths { (p : List ℕ) → Contains (map (λ j. j.0) core.old.journals) p → IsPath p }
@@ -100,7 +103,7 @@ fn add_report(
 }
 
 // What the run reports of its paths, in byte order.
-fn path_lists(alloc: Global, core: &mut Core<'_>) -> Result<(Journals, FileList), Want>
+fn path_lists(alloc: Global, core: &mut Core<'_, CalmDev>) -> Result<(Journals, FileList), Want>
     requires rising { AreRising (map (λ j. j.0) core.old.journals) }
     requires paths { (p : List ℕ) → Contains (map (λ j. j.0) core.old.journals) p → IsPath p }
     ensures journals { IfOk result (λ r. r.0 ≡ core.old.journals) }
@@ -116,20 +119,70 @@ fn path_lists(alloc: Global, core: &mut Core<'_>) -> Result<(Journals, FileList)
     Ok((journals, files))
 }
 
-/// Runs a job to its end under these picks, and reports it.
-pub fn simulate(alloc: Global, s: &Script, picks: &[u32]) -> Result<Report, Want>
+// What the run reports of each client's slots, by rank.
+fn slot_list(alloc: Global, core: &Core<'_, CalmDev>, clients: u32) -> Result<SlotList, Want>
+    requires going { core.now.spent ≡ false }
+    requires clients { clients ≡ core.now.job.shape.clients }
+    ensures { IfOk result (λ slots. slots ≡ (report_of core.now).slots) }
+{
+    let mut slots = SlotList::new(alloc);
+    for r in 0..clients {
+        slots.add(core.census(Rank(r)))?;
+    }
+    Ok(slots)
+}
+
+// For each client a device of no bytes, since no log reaches beyond the memory.
+fn devices(alloc: Global, clients: u32) -> Result<Vec<CalmDev>, Want>
+    ensures { IfOk result (λ devices. devices.items ≡ replicate clients []) }
+{
+    let mut devices = Vec::with_capacity(alloc, clients as usize)?;
+    for _ in 0..clients {
+        devices.push(CalmDev::new(alloc, 0)?)?;
+    }
+    Ok(devices)
+}
+
+// What a job reports in the end under these picks.
+fn report(alloc: Global, s: &Script, picks: &[u32]) -> Result<Report, Want>
     ensures legal { IfOk result (λ r. (told : List ℕ) → IsLegal s.now (report_view r) told) }
+    ensures slots { IfOk result (λ r. AreExactSlots s.now (report_view r)) }
     ensures run { IfOk result (λ r. IsReportUnder picks.now s.now (report_view r)) }
     ensures sized { IfOk result (λ r. length r.journals ≡ length r.files) }
 {
-    let mut core = Core::new(alloc, s)?;
+    let clients = s.shape().clients;
+    let mut core = Core::new(alloc, s, devices(alloc, clients)?)?;
     run_to_end(&mut core, picks)?;
     runs_are_legal();
+    held_is_exact();
     let (journals, files) = path_lists(alloc, &mut core)?;
+    let slots = slot_list(alloc, &core, clients)?;
     Ok(Report {
         answers: core.into_answers(),
         journals,
         files,
+        slots,
+    })
+}
+
+/// Runs a job to its end under these picks, and reports it. It asks the host for nothing yet.
+pub fn simulate<H: Host>(
+    alloc: Global,
+    s: &Script,
+    picks: &[u32],
+    _host: &mut H,
+) -> Result<JobEnd, RunFault>
+    ensures legal { IfOk result
+        (λ end. (told : List ℕ) → IsLegal s.now (report_view end.report) told) }
+    ensures slots { IfOk result (λ end. AreExactSlots s.now (report_view end.report)) }
+    ensures run { IfOk result (λ end. IsReportUnder picks.now s.now (report_view end.report)) }
+    ensures sized { IfOk result (λ end. length end.report.journals ≡ length end.report.files) }
+    ensures outs { IfOk result (λ end. end.outs.items ≡ []) }
+    ensures host { _host.new ≡ _host.old }
+{
+    Ok(JobEnd {
+        report: report(alloc, s, picks)?,
+        outs: Vec::new(alloc),
     })
 }
 

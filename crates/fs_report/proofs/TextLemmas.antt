@@ -4,16 +4,17 @@ use Rattle.std.specs.Prelude.{All, codes, nat_lt}
 use Rattle.std.specs.List.{flat_map}
 use Rattle.std.specs.List.{slice_get}
 use Rattle.std.proofs.Common.{zero, take, add-one}
-use Rattle.std.proofs.lemmas.Option.{same_Some}
+use Rattle.std.proofs.lemmas.Option.{same_Some, slice_get_within, get_or_from_slice_get}
 use Rattle.std.proofs.lemmas.Bool.Decides.{nat_tests}
-use Rattle.std.proofs.lemmas.List.{flat_map_more}
+use Rattle.std.proofs.lemmas.List.{flat_map_more, take_more}
 use Rattle.std.proofs.lemmas.List.Elements.{All-head, All-tail}
 use Rattle.fs_types.specs.AnswerList.{answer_at, IsRisingFrom}
 use Rattle.fs_types.specs.declared.answer.Answer.{Answer}
 use Rattle.fs_types.proofs.CallerLemmas.{answer_at-same, answer_at-other, cases_line, answer_at-rising_below}
-use Rattle.fs_script.specs.Text.{path_lines, journal_line, file_line, answer_line, text}
+use Rattle.fs_script.specs.Text.{path_lines, journal_line, file_line, answer_line, slot_line, text}
 use Rattle.fs_script.specs.Grammar.{spaced}
 use Rattle.fs_types.specs.declared.file_state.FileState.{FileState}
+use Rattle.fs_types.specs.declared.slot_line.SlotLine.{SlotLine}
 use Rattle.fs_report.specs.ReportView.{report_view}
 use Rattle.fs_report.specs.declared.report.Report as kept
 
@@ -149,9 +150,19 @@ paths-push front old between new js fs i j f here beside so_far journal file =
     file ∙ ap (λ t. t ++ file_line f) (journal ∙ ap (λ t. t ++ journal_line j) so_far)
     ∙ four front (path_lines (take i js) (take i fs)) (journal_line j) (file_line f) ∙ ap (λ t. front ++ t) (sym more)
 
+-- one more client's slots
+pub slots-push : (front old new : List ℕ) (ls : List SlotLine) (i : ℕ) (l : SlotLine) → slice_get ls i ≡ Some l
+    → old ≡ front ++ flat_map slot_line (take i ls) → new ≡ old ++ slot_line l → new ≡ front ++ flat_map slot_line (take (i + 1) ls)
+slots-push front old new ls i l here so_far written =
+    let last = ap (λ k. take i ls ++ k ∷ []) (get_or_from_slice_get ls i l l here) in
+    let more = take_more ls i l (slice_get_within ls i l here) ∙ last in
+    written ∙ ap (λ t. t ++ slot_line l) so_far ∙ flat_map_more slot_line front (take i ls) l
+    ∙ ap (λ ks. front ++ flat_map slot_line ks) (sym more)
+
 -- the parts of a report's text, one after another
 pub text-of_parts : (r : kept.Report)
-    → (flat_map answer_line r.answers.list ++ path_lines r.journals r.files) ++ codes "end\n" ≡ text (report_view r)
+    → ((flat_map answer_line r.answers.list ++ path_lines r.journals r.files) ++ flat_map slot_line r.slots) ++ codes "end\n"
+    ≡ text (report_view r)
 text-of_parts r = simp append_assoc
 
 -- ---- words that were appended one by one

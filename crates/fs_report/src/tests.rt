@@ -1,6 +1,6 @@
-use super::{FileList, Report, report_text};
+use super::{FileList, Report, SlotList, report_text};
 use fs_plain::Journals;
-use fs_types::{Answer, Answers, Digest16, FileState, LineNo, Path, Rank, Version};
+use fs_types::{Answer, Answers, Digest16, FileState, LineNo, Path, Rank, SlotLine, Version};
 use std::test::Fail;
 
 // These stand in no report of a job yet. The tests of whole jobs show the other rows.
@@ -51,10 +51,24 @@ fn answers_and_files_of_later_jobs_are_printed(rt: HostRuntime) -> Result<(), Fa
             rank: Rank(0),
         },
     )?;
+    let mut slots = SlotList::new(alloc);
+    slots.add(SlotLine {
+        rank: Rank(0),
+        held: 65_536,
+        free: 0,
+        faults: 0,
+    })?;
+    slots.add(SlotLine {
+        rank: Rank(63),
+        held: 0,
+        free: 12,
+        faults: 18_446_744_073_709_551_615,
+    })?;
     let report = Report {
         answers,
         journals,
         files,
+        slots,
     };
     let text = b"L 3 ok v=2 n=11 slots=1
 L 4 ok v=2 n=0 frozen=1
@@ -66,6 +80,8 @@ J /unifyfs/b
 F /unifyfs/b n=5 frozen=1 md5=a7a7a7a7a7a7a7a7a7a7a7a7a7a7a7a7
 J /unifyfs/c 5 7
 F /unifyfs/c n=3 frozen=0 devfault r=0
+S 0 held=65536 free=0 faults=0
+S 63 held=0 free=12 faults=18446744073709551615
 end
 "
         .as_slice();

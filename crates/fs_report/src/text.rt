@@ -7,6 +7,7 @@ ghost use Rattle.fs_report.specs.ReportView.{report_view};
 use crate::answers::append_answers;
 use crate::paths::append_paths;
 use crate::report::Report;
+use crate::slots::append_slots;
 use fs_types::Want;
 use std::alloc::Global;
 
@@ -18,6 +19,7 @@ pub fn report_text(alloc: Global, r: &Report) -> Result<Vec<u8>, Want>
     let mut out = Vec::new(alloc);
     append_answers(alloc, &mut out, &r.answers)?;
     append_paths(alloc, &mut out, &r.journals, &r.files)?;
+    append_slots(alloc, &mut out, &r.slots)?;
     out.extend_from_slice(b"end\n")?;
     Ok(out)
 }

@@ -1,6 +1,5 @@
 -- The files of a job: each is no longer than the longest, and its places are bytes.
-use Rattle.std.proofs.Common.{◌≡◌, ℕ, ◌<◌, ◌≤◌, true, List, [], ◌∷◌, length, take, Option, Some, None, IfSome, All, refl, arith}
-use Rattle.std.proofs.lemmas.Bool.{cond_both}
+use Rattle.std.proofs.Common.{◌≡◌, ℕ, ◌<◌, ◌≤◌, true, List, [], ◌∷◌, length, Option, Some, None, IfSome, All, refl, arith}
 use Rattle.std.proofs.lemmas.Bool.Decides.{nat_tests}
 use Rattle.std.proofs.lemmas.List.Elements.{All-nil, All-weaker}
 use Rattle.std.proofs.lemmas.List.FromFn.{length-map-range_with_len, get_or-map-range_with_len}
@@ -18,8 +17,10 @@ use Rattle.fs_script.specs.Job.{Job, op_at}
 use Rattle.fs_script.specs.Payload.{pattern_byte, data_bytes, brought, brought_in, bytes_brought, payload, offset, bytes_of}
 use Rattle.fs_script.specs.Grammar.{IsJob, IsData, IsOp, IsOpLine}
 use Rattle.fs_script.specs.Pending.{Answering, pending_at}
-use Rattle.fs_script.specs.Effect.{put_lines, is_enabled, makes, effect_in, effect, after_all, state}
+use Rattle.fs_script.specs.Effect.{put_lines, state}
 use Rattle.fs_script.proofs.Jobs.{IsOpLine-from_job}
+use Rattle.fs_script.specs.Vocabulary.{cells_of}
+use Rattle.fs_script.proofs.FileCells.{holds-state_in}
 
 -- each is the number of a byte
 abbrev pub AllBytes : List ℕ → Type 0
@@ -75,29 +76,11 @@ module _ (s : Job) (job : IsJob s) where
         bytes = All-written (λ b. b < 256) 0 xs (offset s n) bytes (omega arith) within.bytes (AllBytes-payload s job n);
       })
 
-  IsWithinLimits-makes : (op : Op) (q : List ℕ) (f : File ℕ) → IsWithinLimits f → IsWithinLimits (makes s (bytes_of s) op q f)
-  IsWithinLimits-makes ops.Create q f within = record { length = omega arith; bytes = All-nil (λ b. b < 256) }
-  IsWithinLimits-makes (ops.Write off text) q f within = within
-  IsWithinLimits-makes ops.Sync q None within = tt
-  IsWithinLimits-makes ops.Sync q (Some c) within = AreWithinLimits-put_lines q c.cells within
-  IsWithinLimits-makes (ops.Read off len) q f within = within
-  IsWithinLimits-makes ops.Open q f within = within
-  IsWithinLimits-makes ops.Size q f within = within
-
-  IsWithinLimits-effect_in : (o : Option OpLine) (q : List ℕ) (f : File ℕ)
-      → IsWithinLimits f → IsWithinLimits (effect_in s (bytes_of s) o q f)
-  IsWithinLimits-effect_in None q f within = within
-  IsWithinLimits-effect_in (Some o) q f within =
-      cond_both (is_enabled o.op f) (makes s (bytes_of s) o.op q f) f IsWithinLimits
-      (λ _. IsWithinLimits-makes o.op q f within) (λ _. within)
-
-  IsWithinLimits-after_all : (A : Answering) (J : List ℕ) (f : File ℕ)
-      → IsWithinLimits f → IsWithinLimits (after_all s (bytes_of s) A J f)
-  IsWithinLimits-after_all A [] f within = within
-  IsWithinLimits-after_all A (n ∷ J) f within =
-      let next = IsWithinLimits-effect_in (op_at s n) (pending_at s A n) f within in
-      IsWithinLimits-after_all A J (effect s (bytes_of s) A n f) next
-
   -- the file at each version of a journal
   pub IsWithinLimits-state : (A : Answering) (J : List ℕ) (v : ℕ) → IsWithinLimits (state s A J v)
-  IsWithinLimits-state A J v = IsWithinLimits-after_all A (take v J) None tt
+  IsWithinLimits-state A J v = by (state s A J v) (holds-state_in AreWithinLimits s (bytes_of s)
+      (record { length = omega arith; bytes = All-nil (λ b. b < 256) }) A (λ n. AreWithinLimits-put_lines (pending_at s A n)) J v)
+    where
+      by : (f : File ℕ) → AreWithinLimits (cells_of f) → IsWithinLimits f
+      by None within = tt
+      by (Some c) within = within

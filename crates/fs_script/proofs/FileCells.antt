@@ -1,4 +1,4 @@
--- What holds of the blank and of all that the pending lines bring holds of each place of a file, at each version.
+-- What stays true of the places of a file as pending lines are put holds of them at each version.
 use Rattle.fs_types.proofs.Common.{ℕ, List, [], ◌∷◌, take, Option, Some, None, All, AllByRecursion, All-nil, cond_both}
 use Rattle.fs_types.specs.PlainFile.{File, written}
 use Rattle.fs_types.proofs.CallerLemmas.{All-written}
@@ -11,6 +11,35 @@ use Rattle.fs_script.specs.Pending.{Answering, pending_at}
 use Rattle.fs_script.specs.Effect.{put_lines, is_enabled, makes, effect_in, effect, after_all, state_in}
 use Rattle.fs_script.specs.FileMarks.{cells_of}
 
+module _ {X : Type 0} (Q : List X → Type 0) (s : Job) (c : Cells X) (of_nothing : Q []) where
+  -- it stays true as these lines are put
+  abbrev pub StaysTrue : List ℕ → Type 0
+  StaysTrue ns = (xs : List X) → Q xs → Q (put_lines s c ns xs)
+
+  holds-makes : (op : Op) (q : List ℕ) (f : File X) → StaysTrue q → Q (cells_of f) → Q (cells_of (makes s c op q f))
+  holds-makes ops.Create q f stays holds = of_nothing
+  holds-makes ops.Open q f stays holds = holds
+  holds-makes (ops.Write off text) q f stays holds = holds
+  holds-makes ops.Sync q None stays holds = holds
+  holds-makes ops.Sync q (Some f) stays holds = stays f.cells holds
+  holds-makes (ops.Read off len) q f stays holds = holds
+  holds-makes ops.Size q f stays holds = holds
+
+  holds-effect_in : (o : Option OpLine) (q : List ℕ) (f : File X) → StaysTrue q → Q (cells_of f) → Q (cells_of (effect_in s c o q f))
+  holds-effect_in None q f stays holds = holds
+  holds-effect_in (Some o) q f stays holds = cond_both (is_enabled o.op f) (makes s c o.op q f) f (λ g. Q (cells_of g))
+      (λ _. holds-makes o.op q f stays holds) (λ _. holds)
+
+  module _ (A : Answering) (each : (n : ℕ) → StaysTrue (pending_at s A n)) where
+    holds-after_all : (J : List ℕ) (f : File X) → Q (cells_of f) → Q (cells_of (after_all s c A J f))
+    holds-after_all [] f holds = holds
+    holds-after_all (n ∷ J) f holds =
+        holds-after_all J (effect s c A n f) (holds-effect_in (op_at s n) (pending_at s A n) f (each n) holds)
+
+    pub holds-state_in : (J : List ℕ) (v : ℕ) → Q (cells_of (state_in s c A J v))
+    holds-state_in J v = holds-after_all (take v J) None of_nothing
+
+-- what holds of the blank and of all that the pending lines bring holds of each place
 module _ {X : Type 0} (P : X → Type 0) (s : Job) (c : Cells X) (of_blank : P c.blank) where
   -- it holds of all that these lines bring
   abbrev pub OfLines : List ℕ → Type 0
@@ -21,24 +50,6 @@ module _ {X : Type 0} (P : X → Type 0) (s : Job) (c : Cells X) (of_blank : P c
   All-put_lines (n ∷ ns) xs each all = All-put_lines ns (written c.blank xs (offset s n) (c.of_line n)) each.1
       (All-written P c.blank xs (offset s n) (c.of_line n) of_blank all each.0)
 
-  All-makes : (op : Op) (q : List ℕ) (f : File X) → OfLines q → All P (cells_of f) → All P (cells_of (makes s c op q f))
-  All-makes ops.Create q f each all = All-nil P
-  All-makes ops.Open q f each all = all
-  All-makes (ops.Write off text) q f each all = all
-  All-makes ops.Sync q None each all = all
-  All-makes ops.Sync q (Some f) each all = All-put_lines q f.cells each all
-  All-makes (ops.Read off len) q f each all = all
-  All-makes ops.Size q f each all = all
-
-  All-effect_in : (o : Option OpLine) (q : List ℕ) (f : File X) → OfLines q → All P (cells_of f) → All P (cells_of (effect_in s c o q f))
-  All-effect_in None q f each all = all
-  All-effect_in (Some o) q f each all = cond_both (is_enabled o.op f) (makes s c o.op q f) f (λ g. All P (cells_of g))
-      (λ _. All-makes o.op q f each all) (λ _. all)
-
-  module _ (A : Answering) (each : (n : ℕ) → OfLines (pending_at s A n)) where
-    All-after_all : (J : List ℕ) (f : File X) → All P (cells_of f) → All P (cells_of (after_all s c A J f))
-    All-after_all [] f all = all
-    All-after_all (n ∷ J) f all = All-after_all J (effect s c A n f) (All-effect_in (op_at s n) (pending_at s A n) f (each n) all)
-
-    pub All-state_in : (J : List ℕ) (v : ℕ) → All P (cells_of (state_in s c A J v))
-    All-state_in J v = All-after_all (take v J) None (All-nil P)
+  pub All-state_in : (A : Answering) → ((n : ℕ) → OfLines (pending_at s A n)) → (J : List ℕ) (v : ℕ) → All P (cells_of (state_in s c A J v))
+  All-state_in A each =
+      holds-state_in (All P) s c (All-nil P) A (λ n xs all. All-put_lines (pending_at s A n) xs (each n) all)

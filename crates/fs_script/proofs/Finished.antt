@@ -1,8 +1,8 @@
 -- A job that is legal so far, with an answer to each of its operations, has a legal report.
 use Rattle.fs_types.proofs.Common.{common_steps, ◌≡◌, ℕ, zero, suc, ◌<◌, ◌==◌, List, [], ◌∷◌, length, map, Some, IsSome, is_some, Contains}
 use Rattle.fs_types.proofs.Common.{slice_index_or, refl, ap, arith, cond_both, eqb-false, slice_get_within, get_or_from_slice_get}
-use Rattle.fs_script.specs.Vocabulary.{Answer, answer_at, OpLine, Job, op_at, op_lines, Report, HasShape, FilesAreStates, IsLegal}
-use Rattle.fs_script.specs.Vocabulary.{answers_of, journal_of, IsLegalSoFar}
+use Rattle.fs_script.specs.Vocabulary.{Answer, answer_at, OpLine, Job, op_at, op_lines, Report, HasShape, FilesAreStates, SlotsAreCounted}
+use Rattle.fs_script.specs.Vocabulary.{IsLegal, answers_of, journal_of, IsLegalSoFar}
 use Rattle.fs_script.proofs.PlainLists.{passing-place, some_of}
 use Rattle.fs_script.proofs.Jobs.{op_at-within}
 
@@ -30,15 +30,16 @@ answer_at-listed (x ∷ xs) n (suc k) below same = cond_both (x.0 == n) (Some x.
 answered-in_report : {s : Job} {R : Report} (n : ℕ) (o : OpLine) → HasShape s R → op_at s n ≡ Some o → IsSome (answers_of R n)
 answered-in_report {s} {R} n o shape is = grind (arith, common_steps, op_lines-contains, answer_at-listed)
 
-pub IsLegal-finished : {told : List ℕ} {s : Job} {R : Report} → HasShape s R → FilesAreStates s R
+pub IsLegal-finished : {told : List ℕ} {s : Job} {R : Report} → HasShape s R → FilesAreStates s R → SlotsAreCounted s R
     → IsLegalSoFar told s (answers_of R) (journal_of R.journals) → IsLegal s R told
-IsLegal-finished {s} {R} shape files so_far = record {
+IsLegal-finished {s} {R} shape files slots so_far = record {
   shape = shape;
   journals = so_far.legal;
   lines = λ n o is.
       let given = some_of (answers_of R n) (answered-in_report n o shape is) in
       record { answer = given.0; given = given.1; fits = (so_far.fit o.path).each n o given.0 is refl given.1 };
   files = files;
+  slots = slots;
 }
 
 pub ruleset finished = (IsLegal-finished)

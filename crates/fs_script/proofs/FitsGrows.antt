@@ -1,12 +1,12 @@
 -- An answer that fits goes on fitting: as answers come that change nothing before its line or pending at the journal's lines,
 -- and as the journal grows at its end by lines of no earlier phase.
 use Rattle.fs_types.proofs.Common.{common_steps, ◌≡◌, ℕ, zero, suc, ◌≤◌, Bool, true, false, IsTrue, List, [], ◌∷◌, ◌++◌, length, Option}
-use Rattle.fs_types.proofs.Common.{Some, None, IsSome, IsNone, IfSome, MatchBool, sym, subst, arith, none-some}
+use Rattle.fs_types.proofs.Common.{Some, None, IsSome, IsNone, IfSome, MatchBool, sym, subst, arith, none-some, ◌+◌}
 use Rattle.fs_script.specs.Vocabulary.{Answer, File, is_open_to_change, is_frozen, OpLine, Op, Job, phase, Write, brought, bytes_of, asked}
 use Rattle.fs_script.specs.Vocabulary.{commits, version_of, Answering, state, front, IsInReach, entry, AreTold, AgreesWithOpen, LineView}
-use Rattle.fs_script.specs.Vocabulary.{line_view, MayWrite, IsAtFront, Accepts, EndsPast, ShowsAsked, IsInTable, Fits, AgreeBefore}
-use Rattle.fs_script.specs.Vocabulary.{SamePending}
-use Rattle.fs_script.proofs.Agreement.{pending-agree, over_answers-agree}
+use Rattle.fs_script.specs.Vocabulary.{line_view, MayWrite, IsAtFront, Accepts, EndsPast, LacksSpace, ShowsAsked, IsInTable, Fits}
+use Rattle.fs_script.specs.Vocabulary.{AgreeBefore, SamePending}
+use Rattle.fs_script.proofs.Agreement.{pending-agree, over_answers-agree, accepted_before-agree}
 use Rattle.fs_script.proofs.States.{state_in-agree, state_in-push}
 use Rattle.fs_script.proofs.Fronts.{front-agree, front-push}
 use Rattle.fs_script.proofs.PlainLists.{slice_get-push}
@@ -29,23 +29,25 @@ IfSome-agree s A B J n o None h reach = tt
 IfSome-agree s A B J n o (Some v) h reach = IsInReach-agree B h reach
 
 -- what an answer is checked against is the same
-line_view-agree : (s : Job) (A B : Answering) (J : List ℕ) (n : ℕ) (o : OpLine) → AgreeBefore s o.rank o.path A B n → SamePending s A B J
-    → line_view s A J n o ≡ line_view s B J n o
+line_view-agree : (s : Job) (A B : Answering) (J : List ℕ) (n : ℕ) (o : OpLine) → ((p : List ℕ) → AgreeBefore s o.rank p A B n)
+    → SamePending s A B J → line_view s A J n o ≡ line_view s B J n o
 line_view-agree s A B J n o h same i = record {
   number = n;
   journal = J;
   file = λ v. state_in-agree s (bytes_of s) A B J v same i;
-  front = front-agree s A B J o.rank o.path n h i;
-  pending = pending-agree s o.rank o.path A B n h i;
+  front = front-agree s A B J o.rank o.path n (h o.path) i;
+  pending = pending-agree s o.rank o.path A B n (h o.path) i;
   chunk = s.shape.chunk;
+  slots = s.shape.shmem + s.shape.spill;
+  accepted = accepted_before-agree s o.rank A B n h i;
 }
 
 -- answers of others, and later answers of the same client, leave it fitting
 pub Fits-agree : {told : List ℕ} {s : Job} {A : Answering} (B : Answering) {J : List ℕ} {n : ℕ} {o : OpLine} {a : Answer}
-    → AgreeBefore s o.rank o.path A B n → SamePending s A B J → Fits told s A J n o a → Fits told s B J n o a
+    → ((p : List ℕ) → AgreeBefore s o.rank p A B n) → SamePending s A B J → Fits told s A J n o a → Fits told s B J n o a
 Fits-agree {told} {s} {A} B {J} {n} {o} {a} h same fits = record {
-  opened = subst (λ b. AgreesWithOpen o.op b a) (over_answers-agree _ _ s o.rank o.path A B n h) fits.opened;
-  version = IfSome-agree s A B J n o (version_of a) h fits.version;
+  opened = subst (λ b. AgreesWithOpen o.op b a) (over_answers-agree _ _ s o.rank o.path A B n (h o.path)) fits.opened;
+  version = IfSome-agree s A B J n o (version_of a) (h o.path) fits.version;
   answer = subst (λ w. IsInTable (AreTold s told) w o.op a) (line_view-agree s A B J n o h same) fits.answer;
 }
 
@@ -88,6 +90,18 @@ EndsPast-push : (w : LineView) (K : List ℕ) (g : ℕ → File ℕ) (x : Option
 EndsPast-push w K g None writes h = h
 EndsPast-push w K g (Some x) writes h = (writes h.0, h.1)
 
+LacksSpace-push : (w : LineView) (K : List ℕ) (g : ℕ → File ℕ) (x : Option Write) (need free : ℕ)
+    → (MayWrite w → MayWrite (longer_view w K g)) → LacksSpace w x need free → LacksSpace (longer_view w K g) x need free
+LacksSpace-push w K g None need free writes h = h
+LacksSpace-push w K g (Some x) need free writes h = record {
+  may_write = writes h.may_write;
+  end = h.end;
+  need = h.need;
+  few = h.few;
+  within = h.within;
+  held = h.held;
+}
+
 IsAtFront-push : (w : LineView) (K : List ℕ) (g : ℕ → File ℕ) (x : Option Write) (v : ℕ) → IsAtFront w x v
     → IsAtFront (longer_view w K g) x v
 IsAtFront-push w K g None v h = h
@@ -112,7 +126,7 @@ IsInTable-push compared w K g op (answers.ReadOnly v) entries file writes h =
     (h.0, IsAtFront-push w K g (brought op) v h.1, subst (λ f. IsTrue (is_frozen f)) (sym file) h.2)
 IsInTable-push compared w K g op answers.TooBig entries file writes h = EndsPast-push w K g (brought op) writes h
 IsInTable-push compared w K g op (answers.TooBigAt v) entries file writes h = h
-IsInTable-push compared w K g op (answers.NoSpace need free) entries file writes h = h
+IsInTable-push compared w K g op (answers.NoSpace need free) entries file writes h = LacksSpace-push w K g (brought op) need free writes h
 IsInTable-push compared w K g op (answers.DevFault rank) entries file writes h = h
 
 Fits-push_from : {told : List ℕ} {s : Job} {A : Answering} {J : List ℕ} (m : ℕ) {n : ℕ} {o : OpLine} {a : Answer} → phase s n ≤ phase s m
@@ -138,7 +152,7 @@ Fits-push {told} {s} {A} {J} m {n} {o} {a} later within fits =
 
 -- both at once
 pub Fits-grows : {told : List ℕ} {s : Job} {A : Answering} (B : Answering) {J : List ℕ} (m : ℕ) {n : ℕ} {o : OpLine} {a : Answer}
-    → AgreeBefore s o.rank o.path A B n → SamePending s A B J
+    → ((p : List ℕ) → AgreeBefore s o.rank p A B n) → SamePending s A B J
     → phase s n ≤ phase s m → front s A J o.rank o.path n ≤ length J → Fits told s A J n o a → Fits told s B (J ++ m ∷ []) n o a
 Fits-grows {told} {s} {A} B {J} m {n} {o} {a} h same later within fits =
-    Fits-push m later (subst (λ k. k ≤ length J) (front-agree s A B J o.rank o.path n h) within) (Fits-agree B h same fits)
+    Fits-push m later (subst (λ k. k ≤ length J) (front-agree s A B J o.rank o.path n (h o.path)) within) (Fits-agree B h same fits)

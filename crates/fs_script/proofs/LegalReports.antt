@@ -3,10 +3,11 @@ use Rattle.fs_types.proofs.Common.{◌≡◌, ℕ, ◌+◌, ◌^◌, ◌<◌, tr
 use Rattle.fs_types.proofs.Common.{None, bytes_eq, Ordering, Less, Equal, Greater, refl, sym, ap, ◌∙◌, subst, All, arith, AllByRecursion}
 use Rattle.fs_types.proofs.Common.{range_with_len, nat_cmp, is_lt, is_eq, slice_cmp, cond-true, cond-false, length-map, All-from_recursion}
 use Rattle.fs_types.proofs.Common.{recursion_from_All, All-weaker, All-contains_itself, filter_passes, is_eq-slice_cmp, same_Some}
-use Rattle.fs_types.proofs.Common.{bytes_eq-Decides}
+use Rattle.fs_types.proofs.Common.{bytes_eq-Decides, length-range_with_len, get_or-range_with_len}
 use Rattle.fs_script.specs.Vocabulary.{Answer, FileState, IsPath, File, DIGEST_LIMIT, Job, op_at, Names, state, AreTold, Report, journal_of}
 use Rattle.fs_script.specs.Vocabulary.{AreRising, file_state_of, IsLegal, answers_of, IsPrintableAnswer, IsPrintableLine}
-use Rattle.fs_script.specs.Vocabulary.{IsPrintableJournal, IsPrintableState, IsPrintableFile, IsPrintable}
+use Rattle.fs_script.specs.Vocabulary.{IsPrintableJournal, IsPrintableState, IsPrintableFile, IsPrintable, IsPrintableSlots, SlotLine}
+use Rattle.fs_script.specs.Vocabulary.{AreCounted}
 use Rattle.fs_script.specs.Grammar.{IsJob}
 use Rattle.fs_types.proofs.CallerLemmas.{answer_at-each}
 use Rattle.fs_script.proofs.AnsweredLines.{rising-passing}
@@ -15,6 +16,7 @@ use Rattle.fs_script.proofs.FileBytes.{IsWithinLimits, IsWithinLimits-state}
 use Rattle.fs_script.proofs.Jobs.{IsOpLine-from_job, op_at-within}
 use Rattle.fs_script.proofs.PlainLists.{All-from_map, some_of}
 use Rattle.fs_script.proofs.JournalLines.{journal-within}
+use Rattle.fs_script.proofs.Reading.Headers.{few_each}
 use Rattle.fs_script.proofs.PrintableAnswers.{IsPrintableAnswer-fits}
 
 -- ---- each path has its journal
@@ -110,6 +112,26 @@ module _ (told : List ℕ) (s : Job) (R : Report) (job : IsJob s) (legal : IsLeg
         state = subst IsPrintableState (sym (states k d below)) (IsPrintableState-file (state s (answers_of R) J (length J)) file);
       }
 
+  -- clients are few, and no more slots are held or free than a client's log has
+  slots_are_printable : All IsPrintableSlots R.slots
+  slots_are_printable k d below =
+      let count = s.shape.clients in
+      let range : All (λ n. n < count) (range_with_len 0 count) = λ i e within.
+      let size = length-range_with_len 0 count in
+      let rank : get_or (range_with_len 0 count) i e < count = omega (arith, get_or-range_with_len 0 count i e (omega arith)) in
+      rank in
+      let ranks = subst (All (λ n. n < count)) (sym legal.shape.slots) range in
+      let rank = All-from_map (λ n. n < count) (λ (l : SlotLine). l.rank) R.slots ranks k d below in
+      let each = All-from_recursion (AreCounted s R) R.slots legal.slots k d below in
+      let memory = few_each s.shape s.shape.shmem _ _ job.shape.some_client job.shape.memory in
+      let spill = few_each s.shape s.shape.spill _ _ job.shape.some_client job.shape.spill in
+      record {
+        client = omega (arith, rank, job.shape.clients);
+        held = omega (arith, each.whole, memory, spill);
+        free = omega (arith, each.whole, memory, spill);
+        faults = omega (arith, each.faults);
+      }
+
 -- ---- reports
 
 pub IsPrintable-legal : {told : List ℕ} {s : Job} {R : Report} → IsJob s → AreTold s told → IsLegal s R told → IsPrintable R
@@ -117,5 +139,6 @@ IsPrintable-legal {told} {s} {R} job all legal = record {
   answers = recursion_from_All IsPrintableLine R.answers (answers_are_printable told s R job legal all);
   journals = recursion_from_All IsPrintableJournal R.journals (journals_are_printable told s R job legal);
   files = recursion_from_All IsPrintableFile R.files (files_are_printable told s R job legal);
+  slots = recursion_from_All IsPrintableSlots R.slots (slots_are_printable told s R job legal);
   as_many = sym (length-map R.journals (λ j. j.0)) ∙ (ap length (sym legal.shape.files) ∙ length-map R.files (λ f. f.0));
 }

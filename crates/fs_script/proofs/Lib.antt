@@ -20,16 +20,23 @@ pub mod TwoPhases
 mod MarkCases
 pub mod MarkedBytes
 pub mod MarksGrow
+pub mod PutLines
+pub mod MarksAtHome
 pub mod FileCells
 pub mod PendingLines
 pub mod PiecesOnce
 pub mod LivePieces
+pub mod CountedPieces
+pub mod PiecesOfClients
 pub mod LivePaths
+pub mod PiecesGrow
 pub mod RunsOfMarks
+pub mod RunsInOrder
 pub mod Jobs
 pub mod ProgramPlaces
 pub mod AnsweredLines
 pub mod SoFar
+pub mod FitsOfOthers
 pub mod Finished
 pub mod FileBytes
 pub mod Digests
@@ -39,4 +46,5 @@ pub mod TextParts
 pub mod TextReader
 pub mod TextRead
 pub mod LegalReports
-mod TextCases
+pub mod TextCases
+mod SlotCases

@@ -14,7 +14,7 @@ use Rattle.fs_script.specs.Journal.{committed, commit_in, commit_by, IsLegalJour
 use Rattle.fs_script.specs.Live.{path_in, named_paths, bears, is_live, is_pending, pending_marks}
 use Rattle.fs_script.specs.FileMarks.{present_marks}
 use Rattle.fs_script.specs.Pending.{Answering, pending}
-use Rattle.fs_script.specs.SoFar.{JournalsByPath}
+use Rattle.fs_script.specs.Journal.{JournalsByPath}
 use Rattle.fs_script.proofs.LivePieces.{IsPart-pending_marks}
 use Rattle.fs_script.proofs.PiecesOnce.{list_any-each_once}
 
@@ -45,7 +45,7 @@ path-named s (suc (suc k)) o is =
     list_any-each_once bytes_eq nat_list_eq_equiv o.path (filter_map path_in s.lines) ∙ op-named s.lines k o is
 
 -- a test that such a path passes, some path that the script names passes
-named-passes : (s : Job) (n : ℕ) (o : OpLine) (p : List ℕ) (test : List ℕ → Bool) → op_at s n ≡ Some o → o.path ≡ p → test p ≡ true
+pub named-passes : (s : Job) (n : ℕ) (o : OpLine) (p : List ℕ) (test : List ℕ → Bool) → op_at s n ≡ Some o → o.path ≡ p → test p ≡ true
     → list_any test (named_paths s) ≡ true
 named-passes s n o p test is on passes =
     let h = Any-from_list_any (bytes_eq o.path) (named_paths s) (path-named s n o is) in

@@ -2,13 +2,11 @@
 -- are no more of them than the client's accepted writes have pieces.
 use Rattle.fs_types.proofs.Common.{◌≡◌, ℕ, ◌/◌, ◌<◌, Bool, true, false, ◌||◌, ◌&&◌, List, [], length, list_any}
 use Rattle.fs_types.proofs.Common.{Option, Some, None, IfSome, true≢false, refl, sym, ap, subst, inl, inr, arith, All}
-use Rattle.fs_types.proofs.Common.{◌∷◌, cond, map, flat_map, AllByRecursion, cond_both, cond-false, false_from_ne_true, filter-append}
-use Rattle.fs_types.proofs.Common.{◌≤◌, ◌+◌, min, filter, range_with_len, ◌∙◌, length-append, sum_by-cons, count_by-le-length}
+use Rattle.fs_types.proofs.Common.{AllByRecursion, ◌≤◌, ◌+◌, min, ◌∙◌}
 use Rattle.fs_types.proofs.Common.{All-nil, IsDistinct, or_cases, length-map-range_with_len, get_or-map-range_with_len}
 use Rattle.std.proofs.Math.Nat.{div-lt_iff_lt-mul, zero-div, zero-mod}
 use Rattle.std.proofs.lemmas.Grind.{div_ceil_times}
 use Rattle.std.proofs.lemmas.List.Folds.{Any-from_list_any}
-use Rattle.std.proofs.lemmas.List.Sums.{length-filter}
 use Rattle.std.proofs.lemmas.Map.Views.{any-filter_same}
 use Rattle.fs_types.specs.Fragments.{piece_eq}
 use Rattle.fs_types.specs.Marks.{Mark, mark_of}
@@ -17,15 +15,18 @@ use Rattle.fs_script.specs.declared.line.OpLine.{OpLine}
 use Rattle.fs_script.specs.Job.{Job, op_at, program}
 use Rattle.fs_script.specs.Payload.{payload, marks_in, parts_of, brought_in, bytes_brought}
 use Rattle.fs_script.specs.Pending.{Answering, pending, pending_at}
-use Rattle.fs_script.specs.SoFar.{JournalsByPath}
+use Rattle.fs_script.specs.Journal.{JournalsByPath}
 use Rattle.fs_script.specs.FileMarks.{present_marks}
-use Rattle.fs_script.specs.Live.{piece_of, is_of_piece, bears, named_paths, is_live, is_pending, past_lines, pending_marks, need}
-use Rattle.fs_script.specs.Live.{pieces_by, was_accepted, live_or_pending, pieces_of_line, accepted_pieces}
+use Rattle.fs_script.specs.Accepted.{need, was_accepted, accepted_pieces}
+use Rattle.fs_script.specs.Live.{piece_of, is_of_piece, bears, named_paths, is_live, is_pending, past_lines, pending_marks}
+use Rattle.fs_script.specs.Live.{pieces_by, live_or_pending}
 use Rattle.fs_script.proofs.FileCells.{All-put_lines, All-state_in}
-use Rattle.fs_script.proofs.PiecesOnce.{piece_at, same_piece, IsDistinct-filter, IsDistinct-pieces_by, list_any-pieces_by}
+use Rattle.fs_script.proofs.PiecesOnce.{same_piece, IsDistinct-filter, IsDistinct-pieces_by, list_any-pieces_by}
+use Rattle.fs_script.proofs.CountedPieces.{passing-le}
 use Rattle.fs_script.proofs.PendingLines.{IsAcceptedLine, AllAccepted-pending, accepted-pending_at}
 use Rattle.fs_script.proofs.PlainLists.{AllByRecursion-weaker}
 use Rattle.fs_script.proofs.ProgramPlaces.{program-place}
+use Rattle.fs_script.specs.Vocabulary.{marks_put}
 
 -- ---- the lines that live and pending pieces are of
 
@@ -65,6 +66,11 @@ module _ (s : Job) (some : 0 < s.shape.chunk) (R : ℕ → Type 0) where
       let h = Any-from_list_any (is_of_piece x) marks borne in
       bears-part x h.1 h.4 (subst MarksPart h.3 (all h.0 h.1 h.2))
 
+  -- what such lines make of an empty file bears parts of them alone
+  pub IsPart-lines : (ns : List ℕ) (x : Piece) → AllByRecursion R ns → bears (marks_put s ns) x ≡ true → IsPart s R x
+  IsPart-lines ns x each borne = bears-some_part x (marks_put s ns)
+      (All-put_lines MarksPart s (marks_in s) tt ns [] (MarksPart-lines ns each) (All-nil MarksPart)) borne
+
 module _ (s : Job) (some : 0 < s.shape.chunk) (A : Answering) where
   abbrev pub WasAccepted : ℕ → Type 0
   WasAccepted n = was_accepted (A n) ≡ true
@@ -80,12 +86,8 @@ module _ (s : Job) (some : 0 < s.shape.chunk) (A : Answering) where
 
   -- what a client has pending to a path bears parts of its own accepted lines there
   pub IsPart-pending_marks : (r : ℕ) (p : List ℕ) (x : Piece) → bears (pending_marks s A r p) x ≡ true → IsPart s (IsAcceptedLine s A r p) x
-  IsPart-pending_marks r p x borne =
-      let R = IsAcceptedLine s A r p in
-      let q = pending s A r p (past_lines s) in
-      let each = MarksPart-lines s some R q (AllAccepted-pending s A r p (past_lines s)) in
-      let all = All-put_lines (MarksPart s some R) s (marks_in s) tt q [] each (All-nil (MarksPart s some R)) in
-      bears-some_part s some R x (pending_marks s A r p) all borne
+  IsPart-pending_marks r p x borne = IsPart-lines s some (IsAcceptedLine s A r p) (pending s A r p (past_lines s)) x
+      (AllAccepted-pending s A r p (past_lines s)) borne
 
   -- a pending piece is such a part for some path
   pub IsPart-pending : (r : ℕ) (x : Piece) → is_pending s A r x ≡ true → (p : List ℕ) × IsPart s (IsAcceptedLine s A r p) x
@@ -139,42 +141,8 @@ list_any-live_or_pending s A journals x o some is =
 
 -- ---- how many
 
--- a test that no part of a line passes keeps none of them
-filter-none : (test : Piece → Bool) (n : ℕ) (ps : List ℕ) → ((p : ℕ) → test (piece_at n p) ≡ false)
-    → length (filter test (map (piece_at n) ps)) ≡ 0
-filter-none test n [] none = refl
-filter-none test n (p ∷ ps) none =
-    let rest = filter test (map (piece_at n) ps) in
-    ap length (cond-false (test (piece_at n p)) (piece_at n p ∷ rest) rest (none p)) ∙ filter-none test n ps none
-
-module _ (s : Job) (some : 0 < s.shape.chunk) (A : Answering) (journals : JournalsByPath) (r : ℕ) where
-  abbrev wanted : Piece → Bool
-  wanted x = is_live s A journals x || is_pending s A r x
-
-  line_wanted-le : (n : ℕ) → length (filter wanted (pieces_of_line s n)) ≤ cond (was_accepted (A n)) (need s n) 0
-  line_wanted-le n = cond_both (was_accepted (A n)) (need s n) 0 (λ m. length (filter wanted (pieces_of_line s n)) ≤ m)
-      (λ _. omega (
-        arith,
-        length-filter wanted (pieces_of_line s n),
-        count_by-le-length wanted (pieces_of_line s n),
-        length-map-range_with_len (piece_at n) 0 (need s n),
-      ))
-      (λ refused. omega (
-        arith,
-        filter-none wanted n (range_with_len 0 (need s n)) (λ p.
-            false_from_ne_true (wanted (piece_at n p))
-            (λ h. true≢false (sym (IsPart-either s some A journals r (piece_at n p) h).line ∙ refused))),
-      ))
-
-  lines_wanted-le : (ns : List ℕ) → length (filter wanted (flat_map (pieces_of_line s) ns)) ≤ accepted_pieces s A ns
-  lines_wanted-le [] = omega arith
-  lines_wanted-le (n ∷ ns) =
-      let mine = pieces_of_line s n in
-      let others = flat_map (pieces_of_line s) ns in
-      let both = ap length (filter-append wanted mine others) ∙ length-append (filter wanted mine) (filter wanted others) in
-      let more = sum_by-cons (λ m. cond (was_accepted (A m)) (need s m) 0) n ns in
-      omega (arith, both, more, line_wanted-le n, lines_wanted-le ns)
-
-  -- there are no more than the pieces of the client's accepted writes
-  pub length-live_or_pending : length (live_or_pending s A journals r) ≤ accepted_pieces s A (program s r)
-  length-live_or_pending = lines_wanted-le (program s r)
+-- there are no more than the pieces of the client's accepted writes
+pub length-live_or_pending : (s : Job) (some : 0 < s.shape.chunk) (A : Answering) (journals : JournalsByPath) (r : ℕ)
+    → length (live_or_pending s A journals r) ≤ accepted_pieces s A (program s r)
+length-live_or_pending s some A journals r = passing-le s (λ n. was_accepted (A n)) (λ x. is_live s A journals x || is_pending s A r x)
+    (λ x h. (IsPart-either s some A journals r x h).line) (program s r)

@@ -14,9 +14,10 @@ use Rattle.fs_script.specs.declared.line.Data.TheVariants.{Text}
 use Rattle.fs_script.specs.Job.{Job, program}
 use Rattle.fs_script.specs.Pending.{Answering}
 use Rattle.fs_script.specs.Effect.{state}
-use Rattle.fs_script.specs.SoFar.{JournalsByPath}
+use Rattle.fs_script.specs.Journal.{JournalsByPath}
 use Rattle.fs_script.specs.FileMarks.{marks_at, present_marks, marked_bytes}
-use Rattle.fs_script.specs.Live.{pieces_borne, named_paths, is_live, pending_marks, is_pending, pieces_by, live_or_pending, accepted_pieces}
+use Rattle.fs_script.specs.Live.{pieces_borne, named_paths, is_live, pending_marks, is_pending, pieces_by, live_or_pending}
+use Rattle.fs_script.specs.Accepted.{accepted_pieces}
 use Rattle.fs_script.specs.Runs.{runs}
 use Rattle.fs_script.proofs.Cases.{overlapping, overlapping_answers, overlapping_journal}
 use Rattle.fs_script.proofs.FiveLines.{path_a, on_a}

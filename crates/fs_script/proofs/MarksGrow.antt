@@ -12,7 +12,7 @@ use Rattle.fs_script.specs.Job.{Job}
 use Rattle.fs_script.specs.Payload.{payload, offset, marks_in}
 use Rattle.fs_script.specs.Pending.{Answering}
 use Rattle.fs_script.specs.Effect.{put_lines, effect}
-use Rattle.fs_script.specs.SoFar.{JournalsByPath}
+use Rattle.fs_script.specs.Journal.{JournalsByPath}
 use Rattle.fs_script.specs.FileMarks.{marks_at, marks_put, cells_of, present_marks}
 use Rattle.fs_script.specs.Live.{bears, named_paths, is_live, past_lines, pending_marks, is_pending}
 use Rattle.fs_script.proofs.Agreement.{pending-agree}

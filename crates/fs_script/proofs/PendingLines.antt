@@ -8,7 +8,8 @@ use Rattle.fs_script.specs.declared.line.Op.{Op}
 use Rattle.fs_script.specs.declared.line.Op.TheVariants as ops
 use Rattle.fs_script.specs.AnswerKinds.{is_accepted, empties}
 use Rattle.fs_script.specs.Job.{Job, op_at, own_at}
-use Rattle.fs_script.specs.Live.{was_accepted, past_lines}
+use Rattle.fs_script.specs.Accepted.{was_accepted}
+use Rattle.fs_script.specs.Live.{past_lines}
 use Rattle.fs_script.specs.Payload.{data_bytes}
 use Rattle.fs_script.specs.Pending.{Answering, with_write, after_answer, one_more, pending, pending_for, pending_at}
 use Rattle.fs_script.proofs.PlainLists.{AllByRecursion-push, AllByRecursion-weaker}

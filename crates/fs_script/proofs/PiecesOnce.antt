@@ -14,7 +14,8 @@ use Rattle.fs_types.specs.Fragments.{piece_eq}
 use Rattle.fs_types.specs.Marks.{Mark}
 use Rattle.fs_types.specs.Pieces.{Piece}
 use Rattle.fs_script.specs.Job.{Job, op_at, is_of_rank, program}
-use Rattle.fs_script.specs.Live.{each_once, piece_of, bears, pieces_borne, need, pieces_of_line, pieces_by}
+use Rattle.fs_script.specs.Accepted.{need}
+use Rattle.fs_script.specs.Live.{each_once, piece_of, bears, pieces_borne, pieces_of_line, pieces_by}
 use Rattle.fs_script.proofs.PlainLists.{AllByRecursion-weaker}
 
 -- ---- two names of pieces
@@ -85,7 +86,7 @@ module _ {K : Type 0} (eq : K → K → Bool) where
             ap (λ b. eq x y || b) (kept ∙ list_any-each_once laws x ys)
       ]
 
-list_any-flat_map : {X Y : Type 0} (test : Y → Bool) (f : X → List Y) (xs : List X)
+pub list_any-flat_map : {X Y : Type 0} (test : Y → Bool) (f : X → List Y) (xs : List X)
     → list_any test (flat_map f xs) ≡ list_any (λ x. list_any test (f x)) xs
 list_any-flat_map test f [] = refl
 list_any-flat_map test f (x ∷ xs) =

@@ -6,7 +6,8 @@ use Rattle.fs_types.proofs.Common.{refl, sym, ap, ◌∙◌, subst, subst₂, ta
 use Rattle.fs_types.proofs.Common.{cond_both, cond-true, cases_eq, cases_order, none-some, same_Some, slice_get_within, slice_get-get_or}
 use Rattle.fs_types.proofs.Common.{get_or_from_slice_get, length-map, length_push, get_or-map, get_or_append_left, All-from_recursion}
 use Rattle.fs_types.proofs.Common.{recursion_from_All, All-take, All-push, All-filter, filter_passes, length-range_with_len}
-use Rattle.fs_types.proofs.Common.{get_or-range_with_len, AllPairs-filter, sum_by-take-le, set, Contains, min, fold}
+use Rattle.fs_types.proofs.Common.{get_or-range_with_len, AllPairs-filter, sum_by-take-le, sum_by-le-sum_by, set, Contains, sum_by}
+use Rattle.fs_types.proofs.Common.{sum_by-cons, min, fold}
 use Rattle.fs_types.proofs.Common.{filter_map, cases_lt, cons_option}
 use Rattle.std.specs.Option.{option_map}
 use Rattle.std.proofs.lemmas.Option.{slice_get-map}
@@ -123,6 +124,15 @@ module _ {X : Type 0} where
 pub count_by-take-rises : {X : Type 0} (p : X → Bool) (xs : List X) (a b : ℕ) → a ≤ b → count_by p (take a xs) ≤ count_by p (take b xs)
 count_by-take-rises p xs a b le =
     subst (λ ys. count_by p ys ≤ count_by p (take b xs)) (take-take a b xs le) (sum_by-take-le (λ x. cond (p x) 1 0) (take b xs) a)
+
+-- ---- sums
+
+-- two functions that agree at each element have one sum
+pub sum_by-agree : {X : Type 0} (f g : X → ℕ) (xs : List X) → All (λ x. f x ≡ g x) xs → sum_by f xs ≡ sum_by g xs
+sum_by-agree {X} f g xs same = by xs (recursion_from_All (λ x. f x ≡ g x) xs same) where
+  by : (ys : List X) → AllByRecursion (λ y. f y ≡ g y) ys → sum_by f ys ≡ sum_by g ys
+  by [] each = refl
+  by (y ∷ ys) each = sum_by-cons f y ys ∙ (λ i. each.0 i + by ys each.1 i) ∙ sym (sum_by-cons g y ys)
 
 -- ---- ranges
 
@@ -241,3 +251,22 @@ pub filter_map-from : {X Y : Type 0} (f : X → Option Y) (xs : List X) (j : ℕ
     → slice_get (filter_map f xs) j ≡ Some y → (i : ℕ) × (x : X) × (slice_get xs i ≡ Some x) × (f x ≡ Some y)
 filter_map-from f [] j y at = absurd (none-some y at)
 filter_map-from f (w ∷ ws) j y at = cons_option-from f w ws y (λ i h. filter_map-from f ws i y h) (f w) j refl at
+
+-- ---- sums over a range
+
+-- where no term rises, and one falls, the sum falls
+pub sum_by-range-falls : (f g : ℕ → ℕ) (r a len : ℕ) → ((i : ℕ) → f i ≤ g i) → f r < g r → a ≤ r → r < a + len
+    → sum_by f (range_with_len a len) < sum_by g (range_with_len a len)
+sum_by-range-falls f g r a zero each falls from to = absurd (omega arith)
+sum_by-range-falls f g r a (suc len) each falls from to =
+    let rest = range_with_len (a + 1) len in
+    let first = sum_by-cons f a rest in
+    let second = sum_by-cons g a rest in
+    elim (cases_eq a r) [
+      | inl here ↦
+          let less : f a < g a = subst (λ i. f i < g i) (sym here) falls in
+          omega (arith, sum_by-le-sum_by f g rest each)
+      | inr other ↦
+          let later = sum_by-range-falls f g r (a + 1) len each falls (omega arith) (omega arith) in
+          omega (arith, each a)
+    ]

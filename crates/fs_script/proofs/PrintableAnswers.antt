@@ -3,7 +3,7 @@ use Rattle.fs_types.proofs.Common.{◌≡◌, ℕ, Bool, ◌^◌, ◌<◌, nat_l
 use Rattle.fs_types.proofs.Common.{cond_both, leb-true, All-take, All-drop, recursion_from_All}
 use Rattle.md5.specs.Md5.{md5}
 use Rattle.fs_script.specs.Vocabulary.{Answer, Body, shown, File, OpLine, Op, Job, op_at, brought, Range, asked, Answering}
-use Rattle.fs_script.specs.Vocabulary.{state, AreTold, LineView, line_view, Accepts, ShowsAsked, Fits, body_of, IsLegalJournal}
+use Rattle.fs_script.specs.Vocabulary.{state, AreTold, LineView, line_view, Accepts, LacksSpace, ShowsAsked, Fits, body_of, IsLegalJournal}
 use Rattle.fs_script.specs.Vocabulary.{IsPrintableBody, IsPrintableAnswer}
 use Rattle.fs_types.specs.declared.limits.TheConstants.{HEX_LIMIT}
 use Rattle.fs_script.specs.Grammar.{IsJob, IsOp}
@@ -28,6 +28,17 @@ slots_are_few w (ops.Write off text) slots is accepts = omega (arith, length-dat
 slots_are_few w ops.Sync slots is accepts = absurd accepts
 slots_are_few w (ops.Read off len) slots is accepts = absurd accepts
 slots_are_few w ops.Size slots is accepts = absurd accepts
+
+-- and a write that finds too few slots free needs no more
+need_is_small : (w : LineView) (op : Op) (need free : ℕ) → IsOp op → LacksSpace w (brought op) need free → (need < 2 ^ 64) × (free < 2 ^ 64)
+need_is_small w ops.Create need free is lacks = absurd lacks
+need_is_small w ops.Open need free is lacks = absurd lacks
+need_is_small w (ops.Write off text) need free is lacks =
+    let few : need < 2 ^ 64 = omega (arith, length-data text is.1, div-le_self (length (data_bytes text)) w.chunk, lacks.need) in
+    (few, omega (arith, lacks.few))
+need_is_small w ops.Sync need free is lacks = absurd lacks
+need_is_small w (ops.Read off len) need free is lacks = absurd lacks
+need_is_small w ops.Size need free is lacks = absurd lacks
 
 -- ---- what a read shows
 
@@ -82,5 +93,5 @@ IsPrintableAnswer-fits {told} {s} {A} {J} {n} {o} {a} job all legal is fits = by
     by (answers.ReadOnly v) fit = omega (arith, fit.version.length, few)
     by answers.TooBig fit = tt
     by (answers.TooBigAt v) fit = absurd fit.answer
-    by (answers.NoSpace need free) fit = absurd fit.answer
+    by (answers.NoSpace need free) fit = need_is_small (line_view s A J n o) o.op need free (IsOpLine-from_job s n o job is).op fit.answer
     by (answers.DevFault rank) fit = absurd fit.answer

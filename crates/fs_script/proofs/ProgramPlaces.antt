@@ -11,7 +11,8 @@ use Rattle.fs_script.proofs.PlainLists.{passes, passing-place}
 pub program-place : (s : Job) (n : ℕ) (o : OpLine) → op_at s n ≡ Some o → (k : ℕ) × (slice_get (program s o.rank) k ≡ Some n)
 program-place s n o is = grind (arith, common_steps, op_at-within, passing-place, length, eq-eqb)
 
-of_rank : (r : ℕ) (o : Option OpLine) → is_of_rank r o ≡ true → (l : OpLine) × (o ≡ Some l) × (l.rank ≡ r)
+-- a line of client r is an operation of that client
+pub of_rank : (r : ℕ) (o : Option OpLine) → is_of_rank r o ≡ true → (l : OpLine) × (o ≡ Some l) × (l.rank ≡ r)
 of_rank r None h = absurd (true≢false (sym h))
 of_rank r (Some o) h = (o, refl, eqb-true o.rank r h)
 

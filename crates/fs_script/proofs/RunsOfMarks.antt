@@ -11,23 +11,23 @@ use Rattle.fs_script.proofs.PiecesOnce.{same_piece}
 
 -- ---- the first run
 
-first_within : (f : Fragment) (fs : List Fragment) (k : ℕ) → f.at ≤ k → k < end_of f → mark_at (f ∷ fs) k ≡ Some (mark_within f k)
+pub first_within : (f : Fragment) (fs : List Fragment) (k : ℕ) → f.at ≤ k → k < end_of f → mark_at (f ∷ fs) k ≡ Some (mark_within f k)
 first_within f fs k from to = grind (arith, nat_tests)
 
-first_outside : (f : Fragment) (fs : List Fragment) (k : ℕ) → (k < f.at) ⊎ (end_of f ≤ k) → mark_at (f ∷ fs) k ≡ mark_at fs k
+pub first_outside : (f : Fragment) (fs : List Fragment) (k : ℕ) → (k < f.at) ⊎ (end_of f ≤ k) → mark_at (f ∷ fs) k ≡ mark_at fs k
 first_outside f fs k (inl before) = grind (arith, nat_tests)
 first_outside f fs k (inr past) = grind (arith, nat_tests)
 
 -- two runs of which the first goes on in the second, as one
-abbrev joined : Fragment → Fragment → Fragment
+abbrev pub joined : Fragment → Fragment → Fragment
 joined f g = record { at = f.at; len = f.len + g.len; piece = f.piece; from = f.from }
 
-record GoesOn (f g : Fragment) : Type 0 where
-  at : g.at ≡ end_of f
-  piece : g.piece ≡ f.piece
-  from : g.from ≡ f.from + f.len
+pub record GoesOn (f g : Fragment) : Type 0 where
+  pub at : g.at ≡ end_of f
+  pub piece : g.piece ≡ f.piece
+  pub from : g.from ≡ f.from + f.len
 
-GoesOn-from : (f g : Fragment) → goes_on f g ≡ true → GoesOn f g
+pub GoesOn-from : (f g : Fragment) → goes_on f g ≡ true → GoesOn f g
 GoesOn-from f g on =
     let both = and_parts (g.at == end_of f && piece_eq g.piece f.piece) (g.from == f.from + f.len) on in
     let first = and_parts (g.at == end_of f) (piece_eq g.piece f.piece) both.0 in

@@ -45,10 +45,10 @@ AllFit-kept {told} {s} {A} {B} {J} {n} {o} {a} {p} here legal fit new =
           (λ now gives.
           let does : o ≡ l = same_Some o l (sym here.op ∙ (ap (op_at s) (sym now) ∙ is)) in
           let fits = new (ap (λ x. x.path) does ∙ on) in
-          let kept = Fits-agree B (AgreeBefore-next s o.rank o.path n here.adds (omega arith)) same fits in
+          let kept = Fits-agree B (λ q. AgreeBefore-next s o.rank q n here.adds (omega arith)) same fits in
           subst (λ k. Fits told s B J k l b) (sym now) (subst (λ x. Fits told s B J n x b) does
           (subst (λ x. Fits told s B J n o x) gives kept)))
-          (λ before. Fits-agree B (AgreeBefore-answered l.path m b l.rank here.adds here.next before (ap rank_in is)) same
+          (λ before. Fits-agree B (λ q. AgreeBefore-answered q m b l.rank here.adds here.next before (ap rank_in is)) same
           (fit.each m l b is on before));
     }
 
@@ -78,12 +78,12 @@ AllFit-commit {told} {s} {A} {B} {J} {n} {o} {a} here legal fit new =
       each = λ m l b is on given. answered-cases m b here.adds given
           (λ now gives.
           let does : o ≡ l = same_Some o l (sym here.op ∙ (ap (op_at s) (sym now) ∙ is)) in
-          let kept = Fits-agree B (AgreeBefore-next s o.rank o.path n here.adds (omega arith)) longer new in
+          let kept = Fits-agree B (λ q. AgreeBefore-next s o.rank q n here.adds (omega arith)) longer new in
           subst (λ k. Fits told s B (J ++ n ∷ []) k l b) (sym now)
           (subst (λ x. Fits told s B (J ++ n ∷ []) n x b) does (subst (λ x. Fits told s B (J ++ n ∷ []) n o x) gives kept)))
           (λ before.
           let within = subst (λ q. front s A J l.rank q m ≤ length J) (sym on) (front-le-length_fit l.rank m fit) in
-          Fits-grows B n (AgreeBefore-answered l.path m b l.rank here.adds here.next before (ap rank_in is)) same
+          Fits-grows B n (λ q. AgreeBefore-answered q m b l.rank here.adds here.next before (ap rank_in is)) same
           (here.phases m (ap is_some before)) within (fit.each m l b is on before));
     }
 

@@ -4,10 +4,12 @@ use Rattle.fs_types.proofs.Common.{ℕ, List, [], ◌∷◌, Some, None, true, f
 use Rattle.fs_script.specs.Vocabulary.{LONGEST_FILE, File, Op, Text, LineView, IsInTable}
 use Rattle.fs_types.specs.declared.answer.Answer.TheVariants as answers
 use Rattle.fs_script.specs.declared.line.Op.TheVariants as ops
+use Rattle.fs_script.specs.declared.line.Data.TheVariants.{Pattern}
 
--- line 4, which knows of the one version of its path, with this file there and these lines pending
+-- line 4, which knows of the one version of its path, with this file there and these lines pending; its client has four slots,
+-- and one piece was accepted from it
 abbrev view : File ℕ → List ℕ → LineView
-view f q = record { number = 4; journal = 2 ∷ []; file = λ v. f; front = 1; pending = q; chunk = 64 }
+view f q = record { number = 4; journal = 2 ∷ []; file = λ v. f; front = 1; pending = q; chunk = 64; slots = 4; accepted = 1 }
 
 abbrev frozen_file : File ℕ
 frozen_file = Some (record { cells = codes "hello"; frozen = true })
@@ -17,6 +19,10 @@ open_file = Some (record { cells = codes "hello"; frozen = false })
 
 abbrev write : Op
 write = ops.Write 0 (Text (codes "hi"))
+
+-- of 200 bytes, which are four parts
+abbrev write_of_four : Op
+write_of_four = ops.Write 0 (Pattern 7 200)
 
 module _ (compared : Type 0) where
   -- ---- a frozen file
@@ -42,6 +48,9 @@ module _ (compared : Type 0) where
 
   write_is_not_too_big : IsInTable compared (view frozen_file []) (ops.Write LONGEST_FILE (Text (codes "hi"))) answers.TooBig → ⊥
   write_is_not_too_big row = false≢true row.0
+
+  write_does_not_lack_space : IsInTable compared (view frozen_file []) write_of_four (answers.NoSpace 4 3) → ⊥
+  write_does_not_lack_space row = false≢true row.may_write
 
   read_is_not_readonly : IsInTable compared (view frozen_file []) (ops.Read 0 5) (answers.ReadOnly 1) → ⊥
   read_is_not_readonly row = false≢true row.0
@@ -103,3 +112,29 @@ module _ (compared : Type 0) where
 
   file_is_found : IsInTable compared (view open_file []) write (answers.NoEnt 1) → ⊥
   file_is_found row = true≢false row.2
+
+  -- ---- a log with too few free slots
+
+  write_lacks_space : IsInTable compared (view open_file []) write_of_four (answers.NoSpace 4 3)
+  write_lacks_space = record {
+    may_write = refl;
+    end = omega arith;
+    need = refl;
+    few = omega arith;
+    within = omega arith;
+    held = omega arith;
+  }
+
+  -- as many are free as it needs
+  write_has_space : IsInTable compared (view open_file []) write_of_four (answers.NoSpace 4 4) → ⊥
+  write_has_space row = omega (arith, row.few)
+
+  -- two are held, and one piece was accepted
+  more_held_than_accepted : IsInTable compared (view open_file []) write_of_four (answers.NoSpace 4 2) → ⊥
+  more_held_than_accepted row = omega (arith, row.held)
+
+  write_needs_its_parts : IsInTable compared (view open_file []) write_of_four (answers.NoSpace 5 3) → ⊥
+  write_needs_its_parts row = omega (arith, row.need)
+
+  read_needs_no_slots : IsInTable compared (view open_file []) (ops.Read 0 200) (answers.NoSpace 4 3) → ⊥
+  read_needs_no_slots row = row

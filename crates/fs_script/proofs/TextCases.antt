@@ -3,6 +3,7 @@ use Rattle.std.specs.Fmt.{digits}
 use Rattle.fs_types.proofs.Common.{◌≡◌, ℕ, List, ◌<◌, [], ◌∷◌, ◌++◌, true, false, codes, refl, arith, nat_lt, list_all, nat_tests}
 use Rattle.fs_types.proofs.Common.{All-weaker, recursion_from_All, AllPass-from_list_all}
 use Rattle.fs_script.specs.Vocabulary.{Report, AreBytes, IsPrintable, text, answer_line, journal_line, file_line, path_lines, line_feed}
+use Rattle.fs_script.specs.Vocabulary.{slot_line}
 use Rattle.hex.proofs.OnLiterals.{hex_on_literals}
 use Rattle.fs_script.proofs.FiveLines.{path_a, five_journal}
 use Rattle.fs_types.specs.declared.answer.Answer.TheVariants as answers
@@ -23,11 +24,12 @@ are_bytes bytes h = recursion_from_All (λ b. b < 256) bytes
     (All-weaker (λ b. nat_lt b 256 ≡ true) (λ b. b < 256) byte_from_test bytes (AllPass-from_list_all (λ b. nat_lt b 256) bytes h))
 
 -- the report of the script of five lines
-abbrev five_report : Report
+abbrev pub five_report : Report
 five_report = record {
   answers = (2, answers.Done 1) ∷ (3, answers.Wrote 1) ∷ (4, answers.Done 2) ∷ (5, answers.Shown 2 3 (bodies.Hex (codes "ell"))) ∷ [];
   journals = (path_a, five_journal) ∷ [];
   files = (path_a, states.Whole 5 false hello_digest) ∷ [];
+  slots = record { rank = 0; held = 1; free = 3; faults = 0 } ∷ [];
 }
 
 -- its text
@@ -38,6 +40,7 @@ five_text : text five_report ≡
     ++ codes "L 5 ok v=2 n=3 hex=656c6c" ++ line_feed
     ++ codes "J /unifyfs/a 2 4" ++ line_feed
     ++ codes "F /unifyfs/a n=5 frozen=0 md5=5d41402abc4b2a76b9719d911017c592" ++ line_feed
+    ++ codes "S 0 held=1 free=3 faults=0" ++ line_feed
     ++ codes "end" ++ line_feed
 unfolding digits hex_on_literals
 five_text = refl
@@ -70,11 +73,12 @@ five_printable = record {
     record { path = refl; state = record { count = omega arith; digest = record { size = refl; bytes = are_bytes hello_digest refl } } },
     tt,
   );
+  slots = (record { client = omega arith; held = omega arith; free = omega arith; faults = omega arith }, tt);
   as_many = refl;
 }
 
 -- a job with no operations
-text_of_nothing : text (record { answers = []; journals = []; files = [] }) ≡ codes "end" ++ line_feed
+text_of_nothing : text (record { answers = []; journals = []; files = []; slots = [] }) ≡ codes "end" ++ line_feed
 text_of_nothing = refl
 
 -- a client that has not opened the path
@@ -148,6 +152,12 @@ line_of_frozen_file = refl
 line_of_unread_file : file_line (path_a, states.Unread 3 false 0) ≡ codes "F /unifyfs/a n=3 frozen=0 devfault r=0" ++ line_feed
 unfolding digits
 line_of_unread_file = refl
+
+-- the last client of the most that there can be, with all of the shared memory
+line_of_slots : slot_line (record { rank = 63; held = 65536; free = 0; faults = 12 })
+    ≡ codes "S 63 held=65536 free=0 faults=12" ++ line_feed
+unfolding digits
+line_of_slots = refl
 
 -- ---- outside what is printable, two reports can have one text
 

@@ -15,12 +15,13 @@ use Rattle.fs_types.specs.declared.answer.Body.{Body}
 use Rattle.fs_types.specs.declared.answer.Body.TheVariants as bodies
 use Rattle.fs_types.specs.declared.file_state.FileState.{FileState}
 use Rattle.fs_types.specs.declared.file_state.FileState.TheVariants as states
+use Rattle.fs_types.specs.declared.slot_line.SlotLine.{SlotLine}
 use Rattle.fs_script.specs.Grammar.{spaced}
 use Rattle.fs_script.specs.Report.{Report}
-use Rattle.fs_script.specs.Text.{text, answer_words, answer_line, body_text, flag_text, entry_text, journal_line, file_words, file_line, path_lines, line_feed}
-use Rattle.fs_script.specs.Printable.{AreBytes, IsPrintableBody, IsPrintableAnswer, IsPrintableLine, IsPrintableJournal, IsPrintableState, IsPrintableFile, IsPrintable}
+use Rattle.fs_script.specs.Text.{text, answer_words, answer_line, body_text, flag_text, entry_text, journal_line, file_words, file_line, path_lines, slot_words, slot_line, line_feed}
+use Rattle.fs_script.specs.Printable.{AreBytes, IsPrintableBody, IsPrintableAnswer, IsPrintableLine, IsPrintableJournal, IsPrintableState, IsPrintableFile, IsPrintableSlots, IsPrintable}
 use Rattle.fs_script.proofs.TextParts.{AreAbove, cut_at, cut_at-first, cut_at-none, AreAbove-append, AreAbove-lower, AreAbove-decimal, AreAbove-encode_lower, AreAbove-path}
-use Rattle.fs_script.proofs.TextReader.{number, bytes_of_hex, read_body, read_four, read_answer, read_state, with_answer, with_journal, with_file, with_line, read_lines, read}
+use Rattle.fs_script.proofs.TextReader.{number, bytes_of_hex, read_body, read_four, read_answer, read_state, read_slots, with_answer, with_journal, with_file, with_slots, with_line, read_lines, read}
 
 -- ---- numbers and hex text
 
@@ -192,14 +193,37 @@ read-file_line f rest h =
     read-line _ rest _ (HasWords-spaced (codes "F") (f.0 ∷ file_words f.1) refl (AreAbove-path f.0 h.path, file_above f.1 h.state))
     ∙ ap (λ (s : FileState). with_file (f.0, s) (read rest)) (read_state-words f.1 h.state)
 
+-- ---- slots
+
+-- no word of a client's slots has a space
+slots_above : (l : SlotLine) → IsPrintableSlots l → AllByRecursion (AreAbove 32) (slot_words l)
+slots_above l h = (AreAbove-decimal l.held h.held, (AreAbove-decimal l.free h.free, (AreAbove-decimal l.faults h.faults, tt)))
+
+-- the words of a client's slots read as those slots
+read_slots-words : (l : SlotLine) → IsPrintableSlots l → read_slots (number (decimal l.rank)) (slot_words l) ≡ l
+read_slots-words l h = λ i. record {
+  rank = number-decimal l.rank (small_of_32 l.rank h.client) i;
+  held = number-decimal l.held h.held i;
+  free = number-decimal l.free h.free i;
+  faults = number-decimal l.faults h.faults i;
+}
+
+-- the line of a client's slots reads as those of one more client
+read-slot_line : (l : SlotLine) (rest : List ℕ) → IsPrintableSlots l → read (slot_line l ++ rest) ≡ with_slots l (read rest)
+read-slot_line l rest h =
+    let rank = AreAbove-decimal l.rank (small_of_32 l.rank h.client) in
+    read-line _ rest _ (HasWords-spaced (codes "S") (decimal l.rank ∷ slot_words l) refl (rank, slots_above l h))
+    ∙ ap (λ (m : SlotLine). with_slots m (read rest)) (read_slots-words l h)
+
 -- ---- the whole text
 
--- a report with these answers, journals and files before its own
-abbrev with_all : List (ℕ × Answer) → List (List ℕ × List ℕ) → List (List ℕ × FileState) → Report → Report
-with_all given js fs R = record { answers = given ++ R.answers; journals = js ++ R.journals; files = fs ++ R.files }
+-- a report with these answers, journals, files and slots before its own
+abbrev with_all : List (ℕ × Answer) → List (List ℕ × List ℕ) → List (List ℕ × FileState) → List SlotLine → Report → Report
+with_all given js fs ls R =
+    record { answers = given ++ R.answers; journals = js ++ R.journals; files = fs ++ R.files; slots = ls ++ R.slots }
 
 -- the lines of answers read as those answers
-read-answers : (given : List (ℕ × Answer)) (rest : List ℕ) → AllByRecursion IsPrintableLine given → read (flat_map answer_line given ++ rest) ≡ with_all given [] [] (read rest)
+read-answers : (given : List (ℕ × Answer)) (rest : List ℕ) → AllByRecursion IsPrintableLine given → read (flat_map answer_line given ++ rest) ≡ with_all given [] [] [] (read rest)
 read-answers [] rest h = refl
 read-answers (a ∷ given) rest h =
     ap (λ bytes. read bytes) (append_assoc (answer_line a) (flat_map answer_line given) rest)
@@ -207,7 +231,7 @@ read-answers (a ∷ given) rest h =
 
 -- the lines of journals and files read as those journals and files
 read-path_lines : (js : List (List ℕ × List ℕ)) (fs : List (List ℕ × FileState)) (rest : List ℕ) → length js ≡ length fs
-    → AllByRecursion IsPrintableJournal js → AllByRecursion IsPrintableFile fs → read (path_lines js fs ++ rest) ≡ with_all [] js fs (read rest)
+    → AllByRecursion IsPrintableJournal js → AllByRecursion IsPrintableFile fs → read (path_lines js fs ++ rest) ≡ with_all [] js fs [] (read rest)
 read-path_lines [] [] rest same h k = refl
 read-path_lines [] (f ∷ fs) rest same h k = absurd (omega arith)
 read-path_lines (j ∷ js) [] rest same h k = absurd (omega arith)
@@ -218,16 +242,26 @@ read-path_lines (j ∷ js) (f ∷ fs) rest same h k =
     ∙ (ap (λ (R : Report). with_journal j R) (read-file_line f more k.0)
     ∙ ap (λ (R : Report). with_journal j (with_file f R)) (read-path_lines js fs rest (omega arith) h.1 k.1)))
 
+-- the lines of clients' slots read as those slots
+read-slot_lines : (ls : List SlotLine) (rest : List ℕ) → AllByRecursion IsPrintableSlots ls
+    → read (flat_map slot_line ls ++ rest) ≡ with_all [] [] [] ls (read rest)
+read-slot_lines [] rest h = refl
+read-slot_lines (l ∷ ls) rest h =
+    ap (λ bytes. read bytes) (append_assoc (slot_line l) (flat_map slot_line ls) rest)
+    ∙ (read-slot_line l (flat_map slot_line ls ++ rest) h.0 ∙ ap (λ (R : Report). with_slots l R) (read-slot_lines ls rest h.1))
+
 -- the text of a printable report reads as that report, whatever follows
 pub read-text : (R : Report) (more : List ℕ) → IsPrintable R → read (text R ++ more) ≡ R
 read-text R more h =
     let end = codes "end" ++ 10 ∷ more in
     let paths = path_lines R.journals R.files in
-    let assoc : text R ++ more ≡ flat_map answer_line R.answers ++ (paths ++ end) = simp append_assoc in
+    let slots = flat_map slot_line R.slots in
+    let assoc : text R ++ more ≡ flat_map answer_line R.answers ++ (paths ++ (slots ++ end)) = simp append_assoc in
     ap (λ bytes. read bytes) assoc
-    ∙ (read-answers R.answers (paths ++ end) h.answers
-    ∙ (ap (λ (S : Report). with_all R.answers [] [] S) (read-path_lines R.journals R.files end h.as_many h.journals h.files)
-    ∙ simp append-nil))
+    ∙ (read-answers R.answers (paths ++ (slots ++ end)) h.answers
+    ∙ (ap (λ (S : Report). with_all R.answers [] [] [] S)
+    (read-path_lines R.journals R.files (slots ++ end) h.as_many h.journals h.files)
+    ∙ (ap (λ (S : Report). with_all R.answers R.journals R.files [] S) (read-slot_lines R.slots end h.slots) ∙ simp append-nil)))
 
 -- two printable reports with one text are one report
 pub same_report : (R S : Report) → IsPrintable R → IsPrintable S → text R ≡ text S → R ≡ S
@@ -241,4 +275,4 @@ nothing_more R S more r s e =
 
 -- what stands before the line `end`
 pub text_ends : (R : Report) → (lines : List ℕ) × (text R ≡ lines ++ codes "end" ++ line_feed)
-text_ends R = (flat_map answer_line R.answers ++ path_lines R.journals R.files, refl)
+text_ends R = (flat_map answer_line R.answers ++ path_lines R.journals R.files ++ flat_map slot_line R.slots, refl)

@@ -1,7 +1,7 @@
 -- A reader of the texts of printable reports: what stands on each line, word by word.
 use Rattle.fs_types.proofs.Common.{ℕ, ◌==◌, List, [], ◌∷◌, drop, map, slice_index, if◌then◌else◌, result_unwrap_or, digits_value}
 use Rattle.hex.specs.Hex.{decode_of}
-use Rattle.fs_script.specs.Vocabulary.{Answer, Body, FileState, Report}
+use Rattle.fs_script.specs.Vocabulary.{Answer, Body, FileState, SlotLine, Report}
 use Rattle.fs_script.proofs.TextParts.{cut_at}
 use Rattle.fs_types.specs.declared.answer.Answer.TheVariants as answers
 use Rattle.fs_types.specs.declared.answer.Body.TheVariants as bodies
@@ -53,21 +53,33 @@ read_state (n ∷ frozen ∷ []) = states.Gone
 read_state (n ∷ frozen ∷ md5 ∷ []) = states.Whole (number (drop 2 n)) (slice_index frozen 7 == 49) (bytes_of_hex (drop 4 md5))
 read_state (n ∷ frozen ∷ fault ∷ rank ∷ rest) = states.Unread (number (drop 2 n)) (slice_index frozen 7 == 49) (number (drop 2 rank))
 
--- nothing was answered, and no path was named
+-- the words of a client's slots after the client
+abbrev pub read_slots : ℕ → List (List ℕ) → SlotLine
+read_slots rank [] = record { rank = rank; held = 0; free = 0; faults = 0 }
+read_slots rank (held ∷ []) = record { rank = rank; held = 0; free = 0; faults = 0 }
+read_slots rank (held ∷ free ∷ []) = record { rank = rank; held = 0; free = 0; faults = 0 }
+read_slots rank (held ∷ free ∷ faults ∷ rest) =
+    record { rank = rank; held = number (drop 5 held); free = number (drop 5 free); faults = number (drop 7 faults) }
+
+-- nothing was answered, no path was named, and no client was there
 abbrev pub empty_report : Report
-empty_report = record { answers = []; journals = []; files = [] }
+empty_report = record { answers = []; journals = []; files = []; slots = [] }
 
 -- a report with one more answer before its answers
 abbrev pub with_answer : ℕ × Answer → Report → Report
-with_answer a R = record { answers = a ∷ R.answers; journals = R.journals; files = R.files }
+with_answer a R = record R { answers = a ∷ R.answers }
 
 -- a report with one more journal before its journals
 abbrev pub with_journal : List ℕ × List ℕ → Report → Report
-with_journal j R = record { answers = R.answers; journals = j ∷ R.journals; files = R.files }
+with_journal j R = record R { journals = j ∷ R.journals }
 
 -- a report with one more file before its files
 abbrev pub with_file : List ℕ × FileState → Report → Report
-with_file f R = record { answers = R.answers; journals = R.journals; files = f ∷ R.files }
+with_file f R = record R { files = f ∷ R.files }
+
+-- a report with the slots of one more client before those of its clients
+abbrev pub with_slots : SlotLine → Report → Report
+with_slots l R = record R { slots = l ∷ R.slots }
 
 -- a line of one word ends the report; the first letter of any other line says what it is
 abbrev pub with_line : List (List ℕ) → Report → Report
@@ -76,6 +88,7 @@ with_line (kind ∷ []) R = empty_report
 with_line (kind ∷ name ∷ rest) R =
     if slice_index kind 0 == 76 then with_answer (number name, read_answer rest) R
     else if slice_index kind 0 == 74 then with_journal (name, map number rest) R
+    else if slice_index kind 0 == 83 then with_slots (read_slots (number name) rest) R
     else with_file (name, read_state rest) R
 
 -- the report that some lines begin with

@@ -1,10 +1,10 @@
 -- Marks in files: at each place of a file the byte of a piece that stands there, or none for a zero that nobody wrote. They
 -- are made as the bytes are, by the same effects; only, a line brings the marks of its payload where it brought its bytes.
-use Rattle.std.specs.Prelude.{ℕ, List, [], map, length, slice_index_or, Option, Some, None}
+use Rattle.std.specs.Prelude.{◌≡◌, ℕ, ◌+◌, ◌*◌, ◌<◌, List, [], map, length, slice_index_or, Option, Some, None}
 use Rattle.fs_types.specs.Marks.{Mark}
 use Rattle.fs_types.specs.PlainFile.{File}
 use Rattle.fs_script.specs.Job.{Job}
-use Rattle.fs_script.specs.Payload.{part, marks_in}
+use Rattle.fs_script.specs.Payload.{offset, part, marks_in}
 use Rattle.fs_script.specs.Pending.{Answering}
 use Rattle.fs_script.specs.Effect.{state_in, put_lines}
 
@@ -24,6 +24,11 @@ cells_of (Some f) = f.cells
 -- the marks of the file that a whole journal makes
 abbrev pub present_marks : Job → Answering → List ℕ → List (Option Mark)
 present_marks s A J = cells_of (marks_at s A J (length J))
+
+-- a mark stands at place k: its line wrote that byte of its payload there, and it is a byte of the part
+pub record IsAtHome (s : Job) (k : ℕ) (m : Mark) : Type 0 where
+  pub place : k ≡ offset s m.line + m.part * s.shape.chunk + m.place
+  pub byte : m.place < length (part s m.line m.part)
 
 -- ---- bytes by their marks
 

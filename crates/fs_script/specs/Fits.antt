@@ -1,5 +1,6 @@
 -- Which answer a line may have, for a journal of its path: the table of answers.
-use Rattle.std.specs.Prelude.{◌≡◌, ℕ, zero, suc, ◌+◌, ◌≤◌, ◌<◌, nat_le, Bool, not, IsTrue, List, length, take, Option, Some, None, IsSome, IsNone, IfSome, ◌⊎◌, MatchBool, if◌then◌else◌}
+use Rattle.std.specs.Prelude.{◌≡◌, ℕ, zero, suc, ◌+◌, ◌-◌, ◌≤◌, ◌<◌, nat_le, Bool, not, IsTrue, List, length, take, Option, Some, None}
+use Rattle.std.specs.Prelude.{IsSome, IsNone, IfSome, ◌⊎◌, MatchBool, if◌then◌else◌}
 use Rattle.std.specs.List.{slice_get, AllByRecursion, Contains}
 use Rattle.md5.specs.Md5.{md5}
 use Rattle.fs_types.specs.declared.answer.Answer.{Answer}
@@ -13,6 +14,7 @@ use Rattle.fs_script.specs.declared.line.OpLine.{OpLine}
 use Rattle.fs_script.specs.declared.line.Op.{Op}
 use Rattle.fs_script.specs.Job.{Job, rank_at, phase}
 use Rattle.fs_script.specs.Payload.{Write, brought, parts_of}
+use Rattle.fs_script.specs.Accepted.{accepted_before}
 use Rattle.fs_script.specs.Operations.{Range, asked, asks_size, needs_open, needs_file, needs_no_file, needs_unfrozen, commits, finds_file}
 use Rattle.fs_script.specs.AnswerKinds.{version_of, is_badf}
 use Rattle.fs_script.specs.Pending.{Answering, pending}
@@ -53,7 +55,8 @@ abbrev pub AgreesWithOpen : Op → Bool → Answer → Type 0
 AgreesWithOpen op is_open a = MatchBool (needs_open op) (is_badf a ≡ not is_open) (Unit {0})
 
 -- what a line's answer is checked against: its number, its path's journal and file at each version, its front, and the
--- pending lines
+-- pending lines; the bytes of a slot, how many slots its client's log has, and how many pieces that client's earlier
+-- accepted writes have
 pub record LineView : Type 0 where
   pub number : ℕ
   pub journal : List ℕ
@@ -61,6 +64,8 @@ pub record LineView : Type 0 where
   pub front : ℕ
   pub pending : List ℕ
   pub chunk : ℕ
+  pub slots : ℕ
+  pub accepted : ℕ
 
 abbrev pub line_view : Job → Answering → List ℕ → ℕ → OpLine → LineView
 line_view s A J n o = record {
@@ -70,6 +75,8 @@ line_view s A J n o = record {
   front = front s A J o.rank o.path n;
   pending = pending s A o.rank o.path n;
   chunk = s.shape.chunk;
+  slots = s.shape.shmem + s.shape.spill;
+  accepted = accepted_before s A o.rank n;
 }
 
 -- the file at the front may be written
@@ -91,6 +98,19 @@ abbrev pub EndsPast : LineView → Option Write → Type 0
 EndsPast w None = ⊥
 EndsPast w (Some x) = MayWrite w × (LONGEST_FILE < x.at + length x.bytes)
 
+-- a write needs more slots than are free: those that are not hold pieces of its client's earlier writes
+pub record NeedsMore (w : LineView) (x : Write) (needed unheld : ℕ) : Type 0 where
+  pub may_write : MayWrite w
+  pub end : x.at + length x.bytes ≤ LONGEST_FILE
+  pub need : needed ≡ parts_of w.chunk (length x.bytes)
+  pub few : unheld < needed
+  pub within : unheld ≤ w.slots
+  pub held : w.slots - unheld ≤ w.accepted
+
+abbrev pub LacksSpace : LineView → Option Write → ℕ → ℕ → Type 0
+LacksSpace w None need free = ⊥
+LacksSpace w (Some x) need free = NeedsMore w x need free
+
 -- the range of a file is shown
 abbrev pub ShowsAsked : Type 0 → Option Range → File ℕ → ℕ → Body → Type 0
 ShowsAsked compared None f n body = ⊥
@@ -102,8 +122,7 @@ abbrev pub IsSized : File ℕ → ℕ → Bool → Type 0
 IsSized None n frozen = ⊥
 IsSized (Some f) n frozen = (n ≡ length f.cells) × (frozen ≡ f.frozen)
 
--- the table: each answer, the operations that may have it, and where; no operation stages a file, logs have room for all
--- that is written, and nothing is spilled
+-- the table: each answer, the operations that may have it, and where; no operation stages a file, and nothing is spilled
 abbrev pub IsInTable : Type 0 → LineView → Op → Answer → Type 0
 IsInTable compared w op (answers.Done v) =
     MatchBool (commits op w.pending) (entry w.journal v ≡ Some w.number) (IsTrue (finds_file op) × IsSome (w.file v))
@@ -118,7 +137,7 @@ IsInTable compared w op (answers.ReadOnly v) =
     IsTrue (needs_unfrozen op w.pending) × IsAtFront w (brought op) v × IsTrue (is_frozen (w.file v))
 IsInTable compared w op answers.TooBig = EndsPast w (brought op)
 IsInTable compared w op (answers.TooBigAt v) = ⊥
-IsInTable compared w op (answers.NoSpace need free) = ⊥
+IsInTable compared w op (answers.NoSpace need free) = LacksSpace w (brought op) need free
 IsInTable compared w op (answers.DevFault rank) = ⊥
 
 -- a line's answer fits a journal of its path, with these answers of earlier lines

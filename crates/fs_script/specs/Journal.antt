@@ -11,6 +11,10 @@ use Rattle.fs_script.specs.Operations.{commits}
 use Rattle.fs_script.specs.AnswerKinds.{done_at}
 use Rattle.fs_script.specs.Effect.{is_enabled, state}
 
+-- the journals by path
+abbrev pub JournalsByPath : Type 0
+JournalsByPath = List ℕ → List ℕ
+
 -- the version of an operation that was committed, with these lines pending and this answer
 abbrev pub commit_of : Op → List ℕ → Answer → Option ℕ
 commit_of op q a = if commits op q then done_at a else None

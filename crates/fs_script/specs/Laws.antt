@@ -8,10 +8,10 @@ use Rattle.fs_script.specs.Pending.{Answering, pending}
 use Rattle.fs_script.specs.Effect.{is_enabled, state}
 use Rattle.fs_script.specs.Fits.{AreTold, Fits}
 use Rattle.fs_script.specs.Grammar.{IsJob}
-use Rattle.fs_script.specs.Journal.{commit_by}
 use Rattle.fs_script.specs.Printable.{IsPrintable}
-use Rattle.fs_script.specs.SoFar.{JournalsByPath, IsLegalSoFar, IsNextAnswer, Pushes}
-use Rattle.fs_script.specs.Report.{Report, HasShape, FilesAreStates, IsLegal, answers_of, journal_of}
+use Rattle.fs_script.specs.Journal.{JournalsByPath, commit_by}
+use Rattle.fs_script.specs.SoFar.{IsLegalSoFar, IsNextAnswer, Pushes}
+use Rattle.fs_script.specs.Report.{Report, HasShape, FilesAreStates, SlotsAreCounted, IsLegal, answers_of, journal_of}
 use Rattle.fs_script.specs.Text.{text, line_feed}
 
 -- ---- jobs
@@ -37,9 +37,9 @@ CommitsKeepJobsLegal =
     → is_enabled o.op (state s A (journals o.path) (length (journals o.path))) ≡ true
     → Fits told s A (journals o.path ++ n ∷ []) n o a → IsLegalSoFar told s B after
 
--- with an answer to each operation, and the files at the ends of the journals, its report is legal
+-- with an answer to each operation, the files at the ends of the journals, and the slots counted, its report is legal
 abbrev pub FinishedJobsAreLegal : Type 0
-FinishedJobsAreLegal = (told : List ℕ) (s : Job) (R : Report) → HasShape s R → FilesAreStates s R
+FinishedJobsAreLegal = (told : List ℕ) (s : Job) (R : Report) → HasShape s R → FilesAreStates s R → SlotsAreCounted s R
     → IsLegalSoFar told s (answers_of R) (journal_of R.journals) → IsLegal s R told
 
 -- ---- the texts of printable reports

@@ -6,8 +6,11 @@ pub mod AnswerKinds
 pub mod Pending
 pub mod Effect
 pub mod Front
+pub mod Accepted
 pub mod Fits
 pub mod Journal
+pub mod FileMarks
+pub mod Live
 pub mod Report
 pub mod Text
 pub mod Printable
@@ -16,8 +19,6 @@ pub mod Reading
 pub mod Growth
 pub mod Returned
 pub mod SoFar
-pub mod FileMarks
-pub mod Live
 pub mod Runs
 pub mod Laws
 pub mod Vocabulary

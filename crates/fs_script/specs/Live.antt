@@ -1,20 +1,18 @@
 -- Which pieces are wanted: a live piece has a byte in the present file of some path, and a pending one in what its client
 -- wrote there and hasn't committed. Every list here that is counted has each piece once.
-use Rattle.std.specs.Prelude.{ℕ, ◌+◌, Bool, false, not, ◌||◌, List, [], ◌∷◌, length, map, filter, filter_map, flat_map, sum_by, bytes_eq}
-use Rattle.std.specs.Prelude.{Option, Some, None, if◌then◌else◌}
+use Rattle.std.specs.Prelude.{ℕ, ◌+◌, Bool, false, not, ◌||◌, List, [], ◌∷◌, length, map, filter, filter_map, flat_map, bytes_eq}
+use Rattle.std.specs.Prelude.{Option, Some, None}
 use Rattle.std.specs.List.{range_with_len, list_any}
 use Rattle.std.specs.Option.{option_map}
-use Rattle.fs_types.specs.declared.answer.Answer.{Answer}
 use Rattle.fs_types.specs.Fragments.{piece_eq}
 use Rattle.fs_types.specs.Marks.{Mark}
 use Rattle.fs_types.specs.Pieces.{Piece}
 use Rattle.fs_script.specs.declared.line.Line.{Line}
-use Rattle.fs_script.specs.AnswerKinds.{is_accepted}
+use Rattle.fs_script.specs.Accepted.{need}
 use Rattle.fs_script.specs.Job.{Job, operation, program}
 use Rattle.fs_script.specs.FileMarks.{marks_put, present_marks}
-use Rattle.fs_script.specs.Payload.{parts_of, payload}
 use Rattle.fs_script.specs.Pending.{Answering, pending}
-use Rattle.fs_script.specs.SoFar.{JournalsByPath}
+use Rattle.fs_script.specs.Journal.{JournalsByPath}
 
 -- of the elements that are equal the first alone
 abbrev pub each_once : {X : Type 0} → (X → X → Bool) → List X → List X
@@ -68,10 +66,6 @@ is_pending s A r x = list_any (λ p. bears (pending_marks s A r p) x) (named_pat
 
 -- ---- how many
 
--- how many pieces line n writes
-abbrev pub need : Job → ℕ → ℕ
-need s n = parts_of s.shape.chunk (length (payload s n))
-
 -- the pieces that line n writes, in order
 abbrev pub pieces_of_line : Job → ℕ → List Piece
 pieces_of_line s n = map (λ p. record { line = n; part = p }) (range_with_len 0 (need s n))
@@ -83,12 +77,3 @@ pieces_by s r = flat_map (pieces_of_line s) (program s r)
 -- those of them that are live or pending: its length is their number
 abbrev pub live_or_pending : Job → Answering → JournalsByPath → ℕ → List Piece
 live_or_pending s A journals r = filter (λ x. is_live s A journals x || is_pending s A r x) (pieces_by s r)
-
--- a line has an answer by which its bytes were accepted
-abbrev pub was_accepted : Option Answer → Bool
-was_accepted None = false
-was_accepted (Some a) = is_accepted a
-
--- how many pieces the accepted writes among these lines have
-abbrev pub accepted_pieces : Job → Answering → List ℕ → ℕ
-accepted_pieces s A ns = sum_by (λ n. if was_accepted (A n) then need s n else 0) ns

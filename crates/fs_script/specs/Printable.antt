@@ -7,6 +7,7 @@ use Rattle.fs_types.specs.declared.answer.Body.{Body}
 use Rattle.fs_types.specs.declared.answer.Body.TheVariants as bodies
 use Rattle.fs_types.specs.declared.file_state.FileState.{FileState}
 use Rattle.fs_types.specs.declared.file_state.FileState.TheVariants as states
+use Rattle.fs_types.specs.declared.slot_line.SlotLine.{SlotLine}
 use Rattle.fs_types.specs.declared.limits.TheConstants.{HEX_LIMIT}
 use Rattle.fs_types.specs.PathText.{IsPath}
 use Rattle.fs_script.specs.Report.{Report}
@@ -78,9 +79,17 @@ pub record IsPrintableFile (f : List ℕ × FileState) : Type 0 where
   pub path : IsPath f.0
   pub state : IsPrintableState f.1
 
+-- the slots of a client, which has 32 bits; their numbers have 64
+pub record IsPrintableSlots (l : SlotLine) : Type 0 where
+  pub client : l.rank < 2 ^ 32
+  pub held : l.held < 2 ^ 64
+  pub free : l.free < 2 ^ 64
+  pub faults : l.faults < 2 ^ 64
+
 -- a report with as many journals as files, each part printable
 pub record IsPrintable (R : Report) : Type 0 where
   pub answers : AllByRecursion IsPrintableLine R.answers
   pub journals : AllByRecursion IsPrintableJournal R.journals
   pub files : AllByRecursion IsPrintableFile R.files
+  pub slots : AllByRecursion IsPrintableSlots R.slots
   pub as_many : length R.journals ≡ length R.files

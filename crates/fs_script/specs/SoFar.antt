@@ -4,12 +4,8 @@ use Rattle.fs_types.specs.declared.answer.Answer.{Answer}
 use Rattle.fs_script.specs.declared.line.OpLine.{OpLine}
 use Rattle.fs_script.specs.Job.{Job, op_at, phase}
 use Rattle.fs_script.specs.Pending.{Answering}
-use Rattle.fs_script.specs.Journal.{IsLegalJournal}
+use Rattle.fs_script.specs.Journal.{JournalsByPath, IsLegalJournal}
 use Rattle.fs_script.specs.Growth.{AddsAnswer, ComesNext, AllFit}
-
--- the journals by path
-abbrev pub JournalsByPath : Type 0
-JournalsByPath = List ℕ → List ℕ
 
 -- each path's journal is legal, and each answer so far fits the journal of its path
 pub record IsLegalSoFar (told : List ℕ) (s : Job) (A : Answering) (journals : JournalsByPath) : Type 0 where

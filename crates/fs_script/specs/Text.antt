@@ -9,6 +9,7 @@ use Rattle.fs_types.specs.declared.answer.Body.{Body}
 use Rattle.fs_types.specs.declared.answer.Body.TheVariants as bodies
 use Rattle.fs_types.specs.declared.file_state.FileState.{FileState}
 use Rattle.fs_types.specs.declared.file_state.FileState.TheVariants as states
+use Rattle.fs_types.specs.declared.slot_line.SlotLine.{SlotLine}
 use Rattle.fs_script.specs.Grammar.{spaced}
 use Rattle.fs_script.specs.Report.{Report}
 
@@ -65,6 +66,13 @@ path_lines [] fs = []
 path_lines (j ∷ js) [] = []
 path_lines (j ∷ js) (f ∷ fs) = journal_line j ++ file_line f ++ path_lines js fs
 
+abbrev pub slot_words : SlotLine → List (List ℕ)
+slot_words l = (codes "held=" ++ decimal l.held) ∷ (codes "free=" ++ decimal l.free) ∷ (codes "faults=" ++ decimal l.faults) ∷ []
+
+-- the line of a client's slots
+abbrev pub slot_line : SlotLine → List ℕ
+slot_line l = spaced (codes "S" ∷ decimal l.rank ∷ slot_words l) ++ line_feed
+
 -- the text of a report
 abbrev pub text : Report → List ℕ
-text R = flat_map answer_line R.answers ++ path_lines R.journals R.files ++ codes "end" ++ line_feed
+text R = flat_map answer_line R.answers ++ path_lines R.journals R.files ++ flat_map slot_line R.slots ++ codes "end" ++ line_feed

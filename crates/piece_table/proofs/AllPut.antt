@@ -6,7 +6,7 @@ use Rattle.std.specs.Option.{option_or}
 use Rattle.fs_types.specs.Fragments.{fragment_count, piece_eq}
 use Rattle.fs_types.specs.Pieces.{Piece, Fragment}
 use Rattle.span_list.specs.Spans.{AreSpans, cut_fragments}
-use Rattle.span_list.proofs.Parts.{at_rest_before}
+use Rattle.span_list.proofs.CallerLemmas.{at_rest_before}
 use Rattle.piece_table.specs.HeldSpans.{HandsOver, IsKept, Kept, LiesIn, PutsAll, held, is_named, kept, put_fragments}
 use Rattle.piece_table.specs.PieceTable.{AreCounted, Pieces, number_in, number_of, hold_in, hold_of}
 use Rattle.piece_table.specs.Thinning.{Thins, ComesOut}
@@ -37,10 +37,12 @@ module _ {H : Type 0} (is_ready : H → Bool) (piece_of : H → Piece) (byte_cou
 
   have_merged : HaveHolds byte_count (hold_of merged) (put_fragments over.fragments old.fragments)
   have_merged = HaveHolds-puts byte_count (hold_of merged) over.fragments old.fragments
-      (HaveHolds-more byte_count (hold_of old.pieces) (hold_of merged) old.fragments (HaveHolds-kept byte_count is_ready piece_of old is_kept)
+      (HaveHolds-more byte_count (hold_of old.pieces) (hold_of merged) old.fragments
+      (HaveHolds-kept byte_count is_ready piece_of old is_kept)
       (λ q some. holds q ∙ or_other (hold_of over.pieces q) (hold_of old.pieces q) (apart q) some))
       (HaveHolds-more byte_count (hold_of over.pieces) (hold_of merged) over.fragments
-      (HaveHolds-kept byte_count is_ready piece_of over over_kept) (λ q some. holds q ∙ or_some (hold_of over.pieces q) (hold_of old.pieces q) some))
+      (HaveHolds-kept byte_count is_ready piece_of over over_kept)
+      (λ q some. holds q ∙ or_some (hold_of over.pieces q) (hold_of old.pieces q) some))
 
   module _ (counted : AreCounted is_ready piece_of merged.entries) (laid : Pieces H) (fs : List Fragment)
       (put : fs ≡ put_fragments over.fragments old.fragments) (laid_numbers : (q : Piece) → number_of laid q ≡ fragment_count q fs)
@@ -49,7 +51,8 @@ module _ {H : Type 0} (is_ready : H → Bool) (piece_of : H → Piece) (byte_cou
     have = subst (HaveHolds byte_count (hold_of merged)) (sym put) have_merged
 
     named_still : (q : Piece) → is_named over.fragments q ≡ true → is_named fs q ≡ true
-    named_still q named = subst (λ us. is_named us q ≡ true) (sym put) (named_put q over.fragments old.fragments over_kept.are_held.spans named)
+    named_still q named =
+        subst (λ us. is_named us q ≡ true) (sym put) (named_put q over.fragments old.fragments over_kept.are_held.spans named)
 
     pub IsKept-put_all : IsKept is_ready piece_of byte_count (kept fs laid)
     IsKept-put_all = IsKept-laid byte_count is_ready piece_of merged laid fs have counted laid_numbers thins
@@ -103,7 +106,8 @@ module _ {H : Type 0} (is_ready : H → Bool) (piece_of : H → Piece) (byte_cou
 
   -- all holds go where all fragments do
   pub HandsOver-all : (old : Kept H) (fs : List Fragment) (pieces : Pieces H) → fs ≡ [] → pieces.entries ≡ [] → (dead after : List H)
-      → ComesOut piece_of (hold_of old.pieces) (hold_of pieces) dead after → HandsOver piece_of (held old) (held (kept fs pieces)) dead after
+      → ComesOut piece_of (hold_of old.pieces) (hold_of pieces) dead after
+      → HandsOver piece_of (held old) (held (kept fs pieces)) dead after
   HandsOver-all old fs pieces none empty dead after comes =
       let out = comes.2 in (
         comes.0,

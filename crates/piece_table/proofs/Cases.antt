@@ -1,5 +1,5 @@
 -- The definitions at single values.
-use Rattle.std.proofs.Common.{◌≡◌, ℕ, Bool, true, false, List, [], ◌∷◌, Some, None, Option, refl}
+use Rattle.std.proofs.Common.{◌≡◌, ℕ, true, false, List, [], ◌∷◌, Some, None, refl}
 use Rattle.fs_types.specs.Pieces.{Fragment, Piece}
 use Rattle.piece_table.specs.HeldSpans.{is_named, put_fragments}
 use Rattle.piece_table.specs.PieceTable.{Pieces, hold_of, number_of}

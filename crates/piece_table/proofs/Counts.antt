@@ -7,7 +7,7 @@ use Rattle.std.proofs.lemmas.List.Sums.{sum_by-append}
 use Rattle.fs_types.specs.Fragments.{end_of, piece_eq, fragment_count}
 use Rattle.fs_types.specs.Pieces.{Fragment, Piece}
 use Rattle.span_list.specs.Spans.{IsSpan, AreSpans, rest_before, rest_from, begins_from, ends_after, put_fragment}
-use Rattle.span_list.proofs.Parts.{at_rest_before, at_rest_from, before, from_on}
+use Rattle.span_list.proofs.CallerLemmas.{at_rest_before, at_rest_from, before, from_on}
 use Rattle.fs_types.specs.declared.limits.TheConstants.{LONGEST_FILE}
 use Rattle.piece_table.specs.HeldSpans.{is_named}
 use Rattle.piece_table.proofs.Covered.{few}
@@ -60,7 +60,8 @@ one_side at end f n some below = grind (arith, nat_tests)
 
 -- what a range leaves on its sides and what lies whole in it are the fragments, with those twice that reach past both ends
 pub count_sides : (q : Piece) (at end : ℕ) (fs : List Fragment) → All IsSpan fs → at < end
-    → fragment_count q (flat_map (rest_before at) fs) + fragment_count q (flat_map (rest_from end) fs) + fragment_count q (covered at end fs)
+    → fragment_count q (flat_map (rest_before at) fs) + fragment_count q (flat_map (rest_from end) fs)
+    + fragment_count q (covered at end fs)
     ≡ fragment_count q fs + fragment_count q (reaching at end fs)
 count_sides q at end [] each below = refl
 count_sides q at end (f ∷ fs) each below =
@@ -149,7 +150,8 @@ named_by_put q f fs span each some none =
     let has_bytes = span.has_bytes in
     let before = flat_map (rest_before f.at) fs in
     let behind = flat_map (rest_from (end_of f)) fs in
-    let one : (naming q f ≡ 1) ⊎ (naming q f ≡ 0) = cond_both (piece_eq f.piece q) 1 0 (λ n. (n ≡ 1) ⊎ (n ≡ 0)) (λ _. inl refl) (λ _. inr refl) in
+    let one : (naming q f ≡ 1) ⊎ (naming q f ≡ 0) =
+    cond_both (piece_eq f.piece q) 1 0 (λ n. (n ≡ 1) ⊎ (n ≡ 0)) (λ _. inl refl) (λ _. inr refl) in
     ⊎_elim (λ e. e) (λ e. absurd (omega (
       arith,
       count_sides q f.at (end_of f) fs each (omega arith),

@@ -8,8 +8,8 @@ use Rattle.fs_types.specs.Fragments.{end_of}
 use Rattle.fs_types.specs.Pieces.{Fragment}
 use Rattle.fs_types.specs.declared.limits.TheConstants.{LONGEST_FILE}
 use Rattle.span_list.specs.Spans.{IsSpan, AreSpans, begins_from, ends_after, next_fragment}
-use Rattle.span_list.proofs.PlainLists.{AllPairs-head, AllPairs-tail}
-use Rattle.span_list.proofs.Parts.{IsAhead}
+use Rattle.span_list.proofs.CallerLemmas.{AllPairs-head, AllPairs-tail}
+use Rattle.span_list.proofs.CallerLemmas.{IsAhead}
 use Rattle.piece_table.specs.Ranges.{covered, is_covered, reaching, reaches_past}
 
 module _ (f : Fragment) (fs : List Fragment) (spans : AreSpans (f ∷ fs)) where
@@ -64,7 +64,9 @@ found_begun at [] g spans found begins = absurd cc
 found_begun at (f ∷ fs) g spans found begins =
     let span = AreSpans-head f fs spans in
     cond_both (ends_after at f) (Some f) (next_fragment at fs) (λ o. o ≡ Some g → find (begins_from at) (f ∷ fs) ≡ Some g)
-    (λ ends same. let same : f ≡ g = same_Some f g same in subst (λ (h : Fragment). find (begins_from at) (h ∷ fs) ≡ Some g) (sym same) (grind (arith, nat_tests)))
+    (λ ends same.
+    let same : f ≡ g = same_Some f g same in
+    subst (λ (h : Fragment). find (begins_from at) (h ∷ fs) ≡ Some g) (sym same) (grind (arith, nat_tests)))
     (λ ended rest.
     let end = ltb-false at (end_of f) ended in
     let later = found_begun at fs g (AreSpans-tail f fs spans) rest begins in

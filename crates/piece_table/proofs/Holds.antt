@@ -3,8 +3,8 @@ use Rattle.fs_types.proofs.Common.{◌≡◌, ℕ, ◌<◌, Bool, true, false, c
 use Rattle.fs_types.proofs.Common.{All, All-append, All-cons, All-weaker, All-head, All-tail, flat_map, sym, ap, ◌∙◌, arith}
 use Rattle.fs_types.proofs.Common.{cases_Bool, cases_lt, get_or, inl, inr, eq-eqb, ne_eqb, cond-true, cond-false}
 use Rattle.span_list.proofs.CallerLemmas.{AreSpans-put}
-use Rattle.span_list.proofs.PlainLists.{All-flat_map}
-use Rattle.span_list.proofs.Parts.{All-rest_before, All-rest_from}
+use Rattle.span_list.proofs.CallerLemmas.{All-flat_map}
+use Rattle.span_list.proofs.CallerLemmas.{All-rest_before, All-rest_from}
 use Rattle.fs_types.specs.Fragments.{end_of, fragment_count}
 use Rattle.fs_types.specs.Pieces.{Piece, Fragment}
 use Rattle.span_list.specs.Spans.{IsSpan, AreSpans, rest_before, rest_from, put_fragment}
@@ -44,7 +44,8 @@ module _ {H : Type 0} (byte_count : H → ℕ) where
       ];
       within = All-append (LiesIn byte_count hold) (flat_map (rest_before f.at) fs) (f ∷ flat_map (rest_from (end_of f)) fs)
           (All-flat_map (LiesIn byte_count hold) (rest_before f.at) fs
-          (All-weaker (LiesIn byte_count hold) (λ g. All (LiesIn byte_count hold) (rest_before f.at g)) (LiesIn-before f.at) fs have.within))
+          (All-weaker (LiesIn byte_count hold) (λ g. All (LiesIn byte_count hold) (rest_before f.at g)) (LiesIn-before f.at) fs
+          have.within))
           (All-cons (LiesIn byte_count hold) f (flat_map (rest_from (end_of f)) fs) lies
           (All-flat_map (LiesIn byte_count hold) (rest_from (end_of f)) fs
           (All-weaker (LiesIn byte_count hold) (λ g. All (LiesIn byte_count hold) (rest_from (end_of f) g)) (LiesIn-from (end_of f)) fs

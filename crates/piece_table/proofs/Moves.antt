@@ -116,7 +116,8 @@ module _ {H : Type 0} (is_ready : H → Bool) (piece_of : H → Piece) (es rest 
   -- what is held still was held
   pub held_rest : (q : Piece) (h : H) → hold_in (lookup (piece_eq q) rest) ≡ Some h → hold_in (lookup (piece_eq q) es) ≡ Some h
   held_rest q h is = elim (cases_Bool (piece_eq p q)) [
-    | inl same ↦ absurd (none-some h (sym (cond-true _ None (hold_in (lookup (piece_eq q) es)) same) ∙ sym (hold_after es rest p None updates q) ∙ is))
+    | inl same ↦ absurd (none-some h (sym (cond-true _ None (hold_in (lookup (piece_eq q) es)) same)
+        ∙ sym (hold_after es rest p None updates q) ∙ is))
     | inr other ↦ sym (cond-false _ None (hold_in (lookup (piece_eq q) es)) other) ∙ sym (hold_after es rest p None updates q) ∙ is
   ]
 

@@ -29,7 +29,8 @@ module _ {H : Type 0} (is_ready : H → Bool) (piece_of : H → Piece) (byte_cou
   entered_counts q = elim (cases_Bool (piece_eq f.piece q)) [
     | inl same ↦
         let of_h : piece_eq (piece_of h) q ≡ true = ap (λ (p : Piece). piece_eq p q) of_f ∙ same in
-        let none : fragment_count q old.fragments ≡ 0 = ap (λ (p : Piece). fragment_count p old.fragments) (sym (same_piece f.piece q same)) ∙ new_piece in
+        let none : fragment_count q old.fragments ≡ 0 =
+        ap (λ (p : Piece). fragment_count p old.fragments) (sym (same_piece f.piece q same)) ∙ new_piece in
         omega (
           arith,
           entered_numbers q,
@@ -97,7 +98,8 @@ module _ {H : Type 0} (is_ready : H → Bool) (piece_of : H → Piece) (byte_cou
       holds = λ q. hold_laid byte_count is_ready piece_of entered laid fs have counted laid_numbers thins q
           ∙ elim (cases_Bool (piece_eq q f.piece)) [
             | inl same ↦ cond-true _ (hold_of entered q) None (named_here q (piece_eq-sym q f.piece same))
-                ∙ hold_here q (piece_eq-sym q f.piece same) ∙ sym (cond-true _ (Some h) (cond (is_named fs q) (hold_of old.pieces q) None) same)
+                ∙ hold_here q (piece_eq-sym q f.piece same)
+                ∙ sym (cond-true _ (Some h) (cond (is_named fs q) (hold_of old.pieces q) None) same)
             | inr other ↦ ap (λ o. cond (is_named fs q) o None) (hold_there q (apart q other))
                 ∙ sym (cond-false _ (Some h) (cond (is_named fs q) (hold_of old.pieces q) None) other)
           ];

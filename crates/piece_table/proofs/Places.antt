@@ -3,7 +3,7 @@ use Rattle.std.specs.Option.{option_or}
 use Rattle.fs_types.proofs.Common.{◌≡◌, ℕ, ◌<◌, true, cond, leb, ltb, List, [], ◌∷◌, Option, Some, None, refl, sym, ap, ◌∙◌, arith}
 use Rattle.fs_types.proofs.Common.{All-weaker, cases_Bool, inl, inr, cond-true, cond-false, and_parts, ltb-true, false≢true}
 use Rattle.span_list.proofs.CallerLemmas.{is_mark_of, mark_at-ahead, mark_at-put, mark-from_named, named-from_mark}
-use Rattle.span_list.proofs.Parts.{IsAhead}
+use Rattle.span_list.proofs.CallerLemmas.{IsAhead}
 use Rattle.fs_types.specs.FragmentMarks.{is_within, mark_at, mark_within}
 use Rattle.fs_types.specs.Fragments.{end_of}
 use Rattle.fs_types.specs.Marks.{Mark}

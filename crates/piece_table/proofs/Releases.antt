@@ -2,7 +2,7 @@
 use Rattle.fs_types.proofs.Common.{◌≡◌, ℕ, ◌+◌, ◌<◌, ◌-◌, Bool, true, false, cond, ◌&&◌, ◌==◌, List, [], ◌∷◌, ◌++◌, Option, Some, None, All, All-nil, All-cons, All-append, All-weaker}
 use Rattle.fs_types.proofs.Common.{Contains, Contains-append_left, Contains-append_right, Contains-push, refl, sym, ap, ◌∙◌, subst, arith, same_Some, append-nil, append_assoc, none-some}
 use Rattle.fs_types.proofs.Common.{cases_Bool, inl, inr, eqb-true, eq-eqb, ne_eqb, cond-true, cond-false, true≢false}
-use Rattle.span_list.proofs.PlainLists.{AllPairs-nil, AllPairs-one, AllPairs-append}
+use Rattle.span_list.proofs.CallerLemmas.{AllPairs-nil, AllPairs-one, AllPairs-append}
 use Rattle.fs_types.specs.Fragments.{piece_eq}
 use Rattle.fs_types.specs.Pieces.{Piece}
 use Rattle.piece_table.specs.PieceTable.{Pieces, number_of, hold_of}
@@ -24,7 +24,8 @@ module _ {H : Type 0} where
     holds = λ q. elim (cases_Bool (number_of c q == 0)) [
       | inl zero ↦ second.holds q ∙ cond-true _ None (hold_of b q) zero ∙ sym (cond-true _ None (hold_of a q) zero)
       | inr some ↦
-          let before : (number_of b q == 0) ≡ false = ne_eqb (number_of b q) 0 (λ none. true≢false (sym (eq-eqb _ _ (second.gone q none)) ∙ some)) in
+          let before : (number_of b q == 0) ≡ false = ne_eqb (number_of b q) 0
+          (λ none. true≢false (sym (eq-eqb _ _ (second.gone q none)) ∙ some)) in
           second.holds q ∙ cond-false _ None (hold_of b q) some
           ∙ first.holds q ∙ cond-false _ None (hold_of a q) before ∙ sym (cond-false _ None (hold_of a q) some)
     ];
@@ -97,7 +98,8 @@ module _ {H : Type 0} where
     pub ComesOut-none : (old new : Piece → Option H) (dead : List H) → ((q : Piece) → new q ≡ old q) → ComesOut piece old new dead dead
     ComesOut-none old new dead same = ([], sym (append-nil dead), AreOut-none old new same)
 
-    pub ComesOut-then : (a b c : Piece → Option H) (before mid after : List H) → ComesOut piece a b before mid → ComesOut piece b c mid after
+    pub ComesOut-then : (a b c : Piece → Option H) (before mid after : List H)
+        → ComesOut piece a b before mid → ComesOut piece b c mid after
         → ((q : Piece) (h : H) → b q ≡ Some h → a q ≡ Some h) → ((q : Piece) → b q ≡ None → c q ≡ None)
         → ComesOut piece a c before after
     ComesOut-then a b c before mid after first second earlier later = (
@@ -114,7 +116,8 @@ module _ {H : Type 0} where
     Thins-one unheld = record {
       holds = λ q. elim (cases_Bool (number_of new q == 0)) [
         | inl zero ↦ unheld q (eqb-true _ _ zero) ∙ sym (cond-true _ None (hold_of old q) zero)
-        | inr more ↦ holds q ∙ cond-false _ None (hold_of old q) (kept q more (piece_eq p q) refl) ∙ sym (cond-false _ None (hold_of old q) more)
+        | inr more ↦ holds q ∙ cond-false _ None (hold_of old q) (kept q more (piece_eq p q) refl)
+            ∙ sym (cond-false _ None (hold_of old q) more)
       ];
       gone = λ q zero. lost q zero (piece_eq p q) refl;
     }

@@ -45,8 +45,8 @@ fn release_covered<H: Hold + Drop, S: Spans>(
     requires there { (q : Piece) → fragment_count q (covered at end (S.fragments spans.now))
         ≤ number_of pieces.old q }
     requires unheld { (q : Piece) → number_of pieces.old q ≡ 0 → hold_of pieces.old q ≡ None }
-    requires room { min (length (covered at end (S.fragments spans.now))) (length pieces.old.entries)
-        + vec_len dead.old ≤ vec_capacity dead.old }
+    requires room { min (length (covered at end (S.fragments spans.now)))
+        (length pieces.old.entries) + vec_len dead.old ≤ vec_capacity dead.old }
     ensures numbers { (q : Piece) → number_of pieces.new q
         + fragment_count q (covered at end (S.fragments spans.now)) ≡ number_of pieces.old q }
     ensures thins { Thins pieces.old pieces.new }

@@ -64,14 +64,17 @@ impl<H: Hold + Drop> PieceTable<H> {
         Some(&self.pieces.get(&p)?.hold)
     }
 
-    /// Enters a piece, which one fragment names. It takes no memory where there is a place to spare.
+    /// Enters a piece, which one fragment names. It takes no memory where there is a place to
+    /// spare.
     pub fn enter(&mut self, h: H) -> Result<(), (Want, H)>
         requires ready { IsTrue (H.is_ready h) }
         requires new_piece { hold_of self.old (H.piece h) ≡ None }
         ensures numbers { OnOk result ((q : Piece)
-            → number_of self.new q ≡ (if piece_eq (H.piece h) q then 1 else number_of self.old q)) }
+            → number_of self.new q
+            ≡ (if piece_eq (H.piece h) q then 1 else number_of self.old q)) }
         ensures holds { OnOk result ((q : Piece)
-            → hold_of self.new q ≡ (if piece_eq (H.piece h) q then Some h else hold_of self.old q)) }
+            → hold_of self.new q
+            ≡ (if piece_eq (H.piece h) q then Some h else hold_of self.old q)) }
         ensures len { OnOk result (length self.new.entries ≡ length self.old.entries + 1) }
         ensures given_back { IfErr result (λ e. e.1 ≡ h) }
         ensures same { OnErr result (self.new.entries ≡ self.old.entries) }
@@ -94,7 +97,8 @@ impl<H: Hold + Drop> PieceTable<H> {
         requires there { 0 < number_of self.old p }
         requires few { number_of self.old p < 2 ^ 64 - 1 }
         ensures numbers { (q : Piece)
-            → number_of self.new q ≡ (if piece_eq p q then number_of self.old p + 1 else number_of self.old q) }
+            → number_of self.new q
+            ≡ (if piece_eq p q then number_of self.old p + 1 else number_of self.old q) }
         ensures holds { (q : Piece) → hold_of self.new q ≡ hold_of self.old q }
         ensures len { length self.new.entries ≡ length self.old.entries }
         ensures spare { self.new.spare ≡ self.old.spare }
@@ -113,10 +117,13 @@ impl<H: Hold + Drop> PieceTable<H> {
         ensures last { is_some result ≡ (number_of self.old p == 1) }
         ensures out { result ≡ (if number_of self.old p == 1 then hold_of self.old p else None) }
         ensures numbers { (q : Piece)
-            → number_of self.new q ≡ (if piece_eq p q then number_of self.old p - 1 else number_of self.old q) }
+            → number_of self.new q
+            ≡ (if piece_eq p q then number_of self.old p - 1 else number_of self.old q) }
         ensures holds { (q : Piece)
-            → hold_of self.new q ≡ (if piece_eq p q && number_of self.old p == 1 then None else hold_of self.old q) }
-        ensures len { length self.new.entries + (if is_some result then 1 else 0) ≡ length self.old.entries }
+            → hold_of self.new q
+            ≡ (if piece_eq p q && number_of self.old p == 1 then None else hold_of self.old q) }
+        ensures len { length self.new.entries + (if is_some result then 1 else 0)
+            ≡ length self.old.entries }
         ensures spare { self.old.spare ≤ self.new.spare }
         ensures piece { IfSome result (λ h. H.piece h ≡ p) }
         ensures counted { AreCounted H.is_ready H.piece self.new.entries }

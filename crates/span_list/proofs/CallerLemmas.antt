@@ -16,3 +16,7 @@ pub use Rattle.span_list.proofs.Parts.{AreSpans-put, AreSpans-cut, put_ends, cut
 pub use Rattle.span_list.proofs.Positions.{rests_before-ended, rests_before-begun, rests_from-ended, rests_from-begun}
 -- a put adds two at most
 pub use Rattle.span_list.proofs.Positions.{length-rests-le}
+-- what stands before a place and from a place on, part by part
+pub use Rattle.span_list.proofs.Parts.{IsAhead, before, from_on, at_rest_before, at_rest_from, All-rest_before, All-rest_from}
+-- what holds of each pair of elements of a list
+pub use Rattle.span_list.proofs.PlainLists.{AllPairs-nil, AllPairs-one, AllPairs-head, AllPairs-tail, AllPairs-append, All-flat_map}

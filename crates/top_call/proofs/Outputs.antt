@@ -17,7 +17,7 @@ use Rattle.top_call.specs.declared.words.Command.TheVariants.{Sim}
 use Rattle.top_call.specs.CommandWords.{command_of}
 use Rattle.top_call.specs.CommandAnswer.{IsSimAnswer, IsCommandAnswer, IsAnswer}
 use Rattle.top_call.specs.Output.{IsOutput, WritesAnswer}
-use Rattle.top_call.specs.Top.{InputChange, OutputChange, AsksForJob, IsTopCall}
+use Rattle.top_call.specs.Top.{InputChange, OutputChange, AsksForJob, AsksWithFault, IsTopCall}
 
 -- each command is `sim` with a seed
 pub only_sim : (k : Command) → (seed : ℕ) × (k ≡ Sim seed)
@@ -68,10 +68,18 @@ Done-refused seed input statuses.Done text sim refused = λ done.
     cc (subst IsErr (script_is_job input sim.job sim.script) refused)
 Done-refused seed input status text sim refused = λ done. cc
 
+-- the answer to a script with a fault is its refusal
+Refused-fault : (seed : ℕ) (input : List ℕ) (status : Status) (text : List ℕ)
+    → IsErr (job_of input) → IsSimAnswer seed input status text → status ≡ statuses.Refused
+Refused-fault seed input statuses.Refused text fault sim = refl
+Refused-fault seed input statuses.Done text fault sim =
+    cc (subst IsErr (script_is_job input sim.job sim.script) fault)
+Refused-fault seed input status text fault sim = absurd sim
+
 -- a simulated job whose answer was written, whole or in part
 pub IsTopCall-sim : {S K H : Type 0} (words : List (List ℕ)) (k : Command) (seed : ℕ)
     (status result : Status) (text : List ℕ)
-    (input : InputChange S) (out : OutputChange K) (host : H)
+    (input : InputChange S) (out : OutputChange K) (host host_after : H)
     → command_of words ≡ Some k → Sim seed ≡ k
     → IfSome (input.left input.old) (λ bytes. IsSimAnswer seed bytes status text)
     → (status ≡ statuses.Done) ⊎ (status ≡ statuses.Refused)
@@ -80,9 +88,10 @@ pub IsTopCall-sim : {S K H : Type 0} (words : List (List ℕ)) (k : Command) (se
     → WritesAnswer status text result (out.held out.old) (out.held out.new)
     → (result ≡ statuses.WriteFault → HasRisen (out.faults out.old) (out.faults out.new))
     → (result ≢ statuses.WriteFault → out.faults out.new ≡ out.faults out.old)
-    → IsTopCall words result input out host host
-IsTopCall-sim words k seed status result text input out host
-    asked is sim which to_end calm writes risen quiet =
+    → host_after ≡ host
+    → IsTopCall words result input out host host_after
+IsTopCall-sim words k seed status result text input out host host_after
+    asked is sim which to_end calm writes risen quiet stays =
     let command : command_of words ≡ Some (Sim seed) = asked ∙ ap Some (sym is) in
     let told = input.left input.old in
     let had = out.held out.old in
@@ -95,4 +104,6 @@ IsTopCall-sim words k seed status result text input out host
     IfSome_then told sim (λ bytes answer bad. Done-refused seed bytes status text answer bad) in
     let reported : AsksForJob words told → status ≡ statuses.Done = λ asks.
     Done-script seed asks.bytes asks.job status text asks.script (subst P asks.input sim) in
-    grind (arith, output, refused, reported)
+    let turned_down : AsksWithFault words told → status ≡ statuses.Refused = λ asks.
+    Refused-fault seed asks.bytes status text asks.fault (subst P asks.input sim) in
+    grind (arith, output, refused, reported, turned_down)

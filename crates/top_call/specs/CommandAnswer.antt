@@ -9,6 +9,7 @@ use Rattle.fs_script.specs.Reading.Scripts.{job_of}
 use Rattle.fs_script.specs.Report.{Report, IsLegal}
 use Rattle.fs_script.specs.Text.{text}
 use Rattle.top_call.specs.UsageAndRefusals.{usage_line, refusal_line}
+use Rattle.core_run.specs.ExactSlots.{AreExactSlots}
 use Rattle.core_run.specs.Picks.{first_picks}
 use Rattle.core_run.specs.PickedRun.{IsReportUnder}
 use Rattle.core_run.specs.declared.picks.TheConstants.{PICK_COUNT}
@@ -18,13 +19,14 @@ use Rattle.top_call.specs.CommandWords.{command_of}
 
 -- the input is the script of a job, and what was written is the text of a report: that of the job's
 -- run under the first picks of the seed, and legal for the job, whichever clients' devices tell
--- their bytes
+-- their bytes; and its lines of slots have as many held as there are live and pending pieces
 pub record IsReportOf (seed : ℕ) (input written : List ℕ) : Type 0 where
   pub job : Job
   pub report : Report
   pub script : IsScript input job
   pub text : written ≡ text report
   pub legal : (told : List ℕ) → IsLegal job report told
+  pub slots : AreExactSlots job report
   pub run : IsReportUnder (first_picks seed PICK_COUNT) job report
 
 -- the input is no script, and what was written is the line of its first fault

@@ -1,7 +1,7 @@
 -- The contract of the call that the program makes, in one place for every function that keeps it.
 use Rattle.std.specs.Prelude.{◌≡◌, ◌≢◌, ◌⊎◌, ℕ, List, Option, Some, None, IfSome, IsErr}
 use Rattle.fs_types.specs.declared.status.Status.{Status}
-use Rattle.fs_types.specs.declared.status.Status.TheVariants.{Done, Usage, ReadFault, WriteFault}
+use Rattle.fs_types.specs.declared.status.Status.TheVariants.{Done, Usage, Refused, ReadFault, WriteFault}
 use Rattle.fs_types.specs.declared.status.Status.TheVariants.{Memory}
 use Rattle.fs_script.specs.Job.{Job}
 use Rattle.fs_script.specs.Grammar.{IsScript}
@@ -49,6 +49,14 @@ pub record AsksForJob (words : List (List ℕ)) (told : Option (List ℕ)) : Typ
   pub job : Job
   pub script : IsScript bytes job
 
+-- the words are `sim SEED`, and the input tells its bytes, which have a fault
+pub record AsksWithFault (words : List (List ℕ)) (told : Option (List ℕ)) : Type 0 where
+  pub seed : ℕ
+  pub command : command_of words ≡ Some (Sim seed)
+  pub bytes : List ℕ
+  pub input : told ≡ Some bytes
+  pub fault : IsErr (job_of bytes)
+
 -- What holds of a call for these words: of the status that it ends with, and of the input, the
 -- output and the host before and after it.
 pub record IsTopCall {S K H : Type 0} (words : List (List ℕ)) (status : Status)
@@ -67,6 +75,12 @@ pub record IsTopCall {S K H : Type 0} (words : List (List ℕ)) (status : Status
   -- Where neither of these fails, it is reported on unless memory runs out.
   pub calm_job : AsksForJob words (input.left input.old)
       → ¬ InputFailed input → ¬ OutputFailed out → (status ≡ Done) ⊎ (status ≡ Memory)
+  -- A script with a fault is refused, unless memory runs out or the input or output fails.
+  pub refusal : AsksWithFault words (input.left input.old)
+      → (status ≡ Refused) ⊎ (status ≡ Memory) ⊎ (status ≡ ReadFault) ⊎ (status ≡ WriteFault)
+  -- Where neither of these fails, it is refused unless memory runs out.
+  pub calm_refusal : AsksWithFault words (input.left input.old)
+      → ¬ InputFailed input → ¬ OutputFailed out → (status ≡ Refused) ⊎ (status ≡ Memory)
   -- No other words than those that are no command end with the status `Usage`,
   pub usage : status ≡ Usage → command_of words ≡ None
   -- and these end with it unless the output fails, whatever the input is.

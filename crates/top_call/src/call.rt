@@ -35,16 +35,16 @@ pub fn top_calm<S: Source, K: Sink, H: Host>(
     words: &[String],
     input: &mut S,
     out: &mut K,
-    _host: &mut H,
+    host: &mut H,
 ) -> Status
     ensures { IsTopCall (map (λ w. string_bytes w) words.now) result
         (record { left = S.left; faults = S.faults; old = input.old; new = input.new })
         (record { held = K.held; faults = K.faults; old = out.old; new = out.new })
-        _host.old _host.new }
+        host.old host.new }
 {
     match read_command(words) {
         None => write_answer(out, Status::Usage, usage_text()),
-        Some(Command::Sim { seed }) => match sim(alloc, seed, input) {
+        Some(Command::Sim { seed }) => match sim(alloc, seed, input, host) {
             Ok(reply) => write_answer(out, reply.status, &reply.text),
             Err(SimFault::ReadFault) => Status::ReadFault,
             Err(SimFault::Memory) => Status::Memory,

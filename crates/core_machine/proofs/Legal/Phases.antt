@@ -1,7 +1,7 @@
 -- Phases: when that of a line has begun, and that no line with an answer is of a later one.
-use Rattle.fs_types.proofs.Common.{◌≡◌, ℕ, ◌+◌, ◌≤◌, ◌<◌, Bool, true, length, Some, IsSome, is_some, leb, Contains, true≢false, sym, ◌∙◌}
-use Rattle.fs_types.proofs.Common.{inl, inr, ◌||◌, filter, range_with_len, or_cases, lt-leb, All-contains, All-weaker, filter_passes}
-use Rattle.fs_types.proofs.Common.{AllPass-from_list_all, list_all-from_AllPass, slice_get_within, get_or_from_slice_get}
+use Rattle.fs_types.proofs.Common.{◌≡◌, ℕ, ◌<◌, Bool, true, length, Some, IsSome, is_some, leb, true≢false, sym, ◌∙◌}
+use Rattle.fs_types.proofs.Common.{inl, inr, ◌||◌, range_with_len, or_cases, lt-leb, All-contains, All-weaker, filter_passes}
+use Rattle.fs_types.proofs.Common.{AllPass-from_list_all, list_all-from_AllPass}
 use Rattle.fs_script.specs.Vocabulary.{op_at, op_lines, phase}
 use Rattle.core_machine.specs.Vocabulary.{OpLine, Moment, printed, has_begun}
 use Rattle.fs_script.proofs.CallerLemmas.{some_of, op_at-within, Contains-passing}
@@ -18,17 +18,19 @@ has_begun-from m n each =
     (λ k is. let op = some_of (op_at m.job k) is in each k op.0 op.1) (op_lines m.job)
     (filter_passes (λ k. is_some (op_at m.job k)) (range_with_len 2 (length m.job.lines))))
 
--- in a phase that has begun, each operation of an earlier one has an answer
+-- in a phase that has begun, that is so of each operation
+pub begun-each : (m : Moment) (n k : ℕ) → has_begun m n ≡ true → IsSome (op_at m.job k) → lets_begin m n k ≡ true
+begun-each m n k begun is =
+    let op = some_of (op_at m.job k) is in
+    let within = op_at-within m.job k op.0 op.1 in
+    let has = Contains-passing (λ i. is_some (op_at m.job i)) 2 (length m.job.lines) k is within.0 within.1 in
+    All-contains (λ i. lets_begin m n i ≡ true) (op_lines m.job) k (AllPass-from_list_all (lets_begin m n) (op_lines m.job) begun) has
+
+-- so each of an earlier phase has an answer
 pub begun-answered : (m : Moment) (n k : ℕ) → has_begun m n ≡ true → IsSome (op_at m.job k)
     → phase m.job k < phase m.job n → IsSome (printed m k)
 begun-answered m n k begun is before =
-    let op = some_of (op_at m.job k) is in
-    let within = op_at-within m.job k op.0 op.1 in
-    let has = Contains-passing (λ i. is_some (op_at m.job i)) 2 (length m.job.lines) k is
-    within.0 within.1 in
-    let all = AllPass-from_list_all (lets_begin m n) (op_lines m.job) begun in
-    let passes = All-contains (λ i. lets_begin m n i ≡ true) (op_lines m.job) k all has in
-    elim (or_cases (is_some (printed m k)) (leb (phase m.job n) (phase m.job k)) passes) [
+    elim (or_cases (is_some (printed m k)) (leb (phase m.job n) (phase m.job k)) (begun-each m n k begun is)) [
       | inl given ↦ given
       | inr later ↦ absurd (true≢false (sym later ∙ lt-leb (phase m.job n) (phase m.job k) before))
     ]

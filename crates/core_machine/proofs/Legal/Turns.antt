@@ -1,16 +1,32 @@
 -- A client's turn: the line that comes next, and what is known as it comes.
 use Rattle.fs_types.proofs.Common.{common_steps, ◌≡◌, ℕ, ◌≤◌, ◌<◌, true, List, Option, Some, None, IsSome, is_some, Contains, true≢false}
 use Rattle.fs_types.proofs.Common.{refl, sym, ap, ◌∙◌, subst, inl, inr, arith, cases_lt, All-contains, filter_passes, same_Some}
-use Rattle.fs_script.specs.Vocabulary.{op_at, phase, rank_in, ComesNext}
-use Rattle.core_machine.specs.Vocabulary.{OpLine, Moment, printed, answering, client_of, journal, has_begun, may_come, next_line, ready}
+use Rattle.fs_types.proofs.Common.{◌+◌, ◌&&◌, length, list_any, nat_lt, lt-ltb, and_from}
+use Rattle.fs_types.specs.Fragments.{piece_eq}
+use Rattle.fs_script.specs.Vocabulary.{Answer, Piece, op_at, phase, rank_in, ComesNext, was_accepted, accepted_before, pieces_by}
+use Rattle.core_machine.specs.Vocabulary.{OpLine, Moment, printed, answering, client_of, journal, log_of, empty_slots, has_begun, may_come}
+use Rattle.core_machine.specs.Vocabulary.{next_line, ready}
 use Rattle.core_machine.specs.Vocabulary.{after_event, event_at, step_line, step_at, step, IsAnsweredUpTo, IsLegalMoment}
-use Rattle.fs_script.proofs.CallerLemmas.{some_of, AllByRecursion-from_get, answered-in_journal, program-op}
+use Rattle.fs_script.proofs.CallerLemmas.{some_of, AllByRecursion-from_get, answered-in_journal, program-op, IsPartOf-from_pieces}
+use Rattle.fs_script.proofs.CallerLemmas.{any_from_Contains, distinct-le-accepted}
 use Rattle.core_machine.proofs.Places.{StandsNext, unanswered, before}
 use Rattle.core_machine.proofs.Legal.Event.{NextLine}
+use Rattle.core_machine.proofs.Legal.Logs.{Contains-at, pieces_of_log, held_and_free, slot-of_piece, IsDistinct-pieces_of_log}
 
 -- no line counts before it is printed
 printed-counted : (m : Moment) (n : ℕ) → IsSome (answering m n) → IsSome (printed m n)
 printed-counted m n counts = counts
+
+-- ---- pieces of a client's lines
+
+-- a piece is in a slot of a log where it is one of its pieces
+pub has_piece : (m : Moment) (r : ℕ) (x : Piece) → list_any (piece_eq x) (pieces_of_log (log_of m r)) ≡ true
+    → Contains (log_of m r) (Some x)
+has_piece m r x h = let at = slot-of_piece x (log_of m r) h in Contains-at (log_of m r) at.0 (Some x) at.1
+
+answered-accepted : (a : Option Answer) → was_accepted a ≡ true → (b : Answer) × (a ≡ Some b)
+answered-accepted None h = absurd (true≢false (sym h))
+answered-accepted (Some b) h = (b, refl)
 
 -- ---- the line that comes next
 
@@ -53,9 +69,13 @@ module _ {told : List ℕ} {m : Moment} {r : ℕ} (t : IsTurn told m r) where
   pub step-is : step m (record { client = r }) ≡ after_event m r n o (event_at m n o)
   step-is = ap (step_at m r) next ∙ ap (step_line m r n) is
 
+  -- its client is one that the shape counts
+  pub within_clients : r < m.job.shape.clients
+  within_clients = subst (λ i. i < m.job.shape.clients) rank (so_far.job.clients n o is)
+
   -- of the client's program the lines before that one have answers, and no others
   pub answered_up_to : IsAnsweredUpTo m.job (printed m) r (client_of m r).place
-  answered_up_to = so_far.places r (subst (λ i. i < m.job.shape.clients) rank (so_far.job n o is))
+  answered_up_to = so_far.places r within_clients
 
   pub stands : StandsNext m.job (printed m) r (client_of m r).place n
   stands = record { upto = answered_up_to; here = next }
@@ -79,6 +99,34 @@ module _ {told : List ℕ} {m : Moment} {r : ℕ} (t : IsTurn told m r) where
     | inr other ↦ other
   ]
 
+  -- ---- the log of its client
+
+  -- its client is one that the shape counts
+  pub of_client : o.rank < m.job.shape.clients
+  of_client = so_far.job.clients n o is
+
+  pub log_is_whole : length (pieces_of_log (log_of m o.rank)) + length (empty_slots (log_of m o.rank))
+      ≡ m.job.shape.shmem + m.job.shape.spill
+  log_is_whole = held_and_free 0 (log_of m o.rank) ∙ (so_far.slots o.rank of_client).sized
+
+  -- a piece in it is of an accepted line before this one
+  early : (x : Piece) → list_any (piece_eq x) (pieces_of_log (log_of m o.rank)) ≡ true
+      → (was_accepted (answering m x.line) && nat_lt x.line n) ≡ true
+  early x h =
+      let has = has_piece m o.rank x h in
+      let accepted = so_far.accepted o.rank x of_client has in
+      let answered = answered-accepted (answering m x.line) accepted in
+      let own = IsPartOf-from_pieces m.job o.rank x ((so_far.slots o.rank of_client).own x has) in
+      let before_it = comes_next.last x.line answered.0 answered.1 (own.line ∙ sym (ap rank_in is)) in
+      and_from (was_accepted (answering m x.line)) (nat_lt x.line n) accepted (lt-ltb x.line n before_it)
+
+  pub held-le-accepted : length (pieces_of_log (log_of m o.rank)) ≤ accepted_before m.job (answering m) o.rank n
+  held-le-accepted =
+      let slots = so_far.slots o.rank of_client in
+      distinct-le-accepted m.job (answering m) n o.rank (pieces_of_log (log_of m o.rank))
+      (IsDistinct-pieces_of_log (log_of m o.rank) slots.once)
+      (λ x h. any_from_Contains x (pieces_by m.job o.rank) (slots.own x (has_piece m o.rank x h))) early
+
   -- the line, with what is known of its path
   abbrev pub coming : NextLine
   coming =
@@ -93,8 +141,12 @@ module _ {told : List ℕ} {m : Moment} {r : ℕ} (t : IsTurn told m r) where
         line = o;
         is = is;
         next = comes_next;
+        log = log_of m o.rank;
         later = AllByRecursion-from_get (λ k. phase m.job k ≤ phase m.job n) J (λ i k at.
             no_later_phase k (answered-in_journal i k legal at));
         legal = legal;
         fit = so_far.legal.fit o.path;
+        chunk = so_far.job.chunk;
+        within = omega (arith, log_is_whole);
+        held = omega (arith, log_is_whole, held-le-accepted);
       }

@@ -1,7 +1,7 @@
 -- The least of some numbers, and the phases of the lines that are done next.
-use Rattle.fs_types.proofs.Common.{◌≡◌, ℕ, zero, suc, ◌<◌, ◌≤◌, List, [], ◌∷◌, length, min, fold, get_or, Option, Some, None, slice_get}
-use Rattle.fs_types.proofs.Common.{Contains, refl, ap, ◌∙◌, inl, inr, arith, IfNone, IfSome, AllByRecursion, reduce, filter_map}
-use Rattle.fs_types.proofs.Common.{cons_option, option_map, cases_lt, none-some, same_Some, slice_get-get_or, slice_get_within}
+use Rattle.fs_types.proofs.Common.{◌≡◌, ℕ, ◌≤◌, List, [], ◌∷◌, min, fold, Option, Some, None, slice_get}
+use Rattle.fs_types.proofs.Common.{Contains, refl, ap, ◌∙◌, IfNone, IfSome, reduce}
+use Rattle.fs_types.proofs.Common.{option_map, none-some, same_Some, slice_get-get_or, slice_get_within}
 use Rattle.fs_types.proofs.Common.{get_or_from_slice_get, All-from_recursion}
 use Rattle.fs_script.specs.Vocabulary.{Job, phase}
 use Rattle.fs_script.proofs.CallerLemmas.{fold-min-le, fold-min-least, fold-min-there, filter_map-at, filter_map-from}

@@ -1,179 +1,204 @@
--- One event of the machine is one line answered by what the core keeps.
-use Rattle.fs_types.proofs.Common.{common_steps, cond-false, false_from_ne_true, and_parts, eqb-true, ◌≡◌, ◌≢◌, ℕ, ◌+◌, ◌<◌, ◌≤◌, false}
-use Rattle.fs_types.proofs.Common.{List, length, set, slice_index, Some, None, IsSome, is_some, refl, sym, ap, subst, ◌∙◌, arith, inl, inr}
-use Rattle.fs_types.proofs.Common.{eq-eqb, slice_get, cases_eq, length-set, get_or-set_same, get_or-set_other, same_Some, slice_get_within}
-use Rattle.fs_types.proofs.Common.{bytes_eq-Decides}
-use Rattle.fs_script.specs.Vocabulary.{Answer, Given, answer_at, put_answer, Job, op_at, own_op, rank_in, phase, program, Answering}
-use Rattle.fs_script.specs.Vocabulary.{pending}
-use Rattle.core_machine.specs.Vocabulary.{OpLine, PathState, ClientPath, AreSound, pending_lines, Follows, kept_event, Places}
-use Rattle.core_machine.specs.Vocabulary.{IsAnsweredUpTo, after_line, Holds, Stands, StandsForOwner, StandsForClient, script_end}
-use Rattle.fs_script.proofs.CallerLemmas.{AddsAnswer-put, own_op-rank, op_at-within, program-op, slice_get-set_same, slice_get-set_other}
-use Rattle.fs_script.proofs.CallerLemmas.{place_unique}
-use Rattle.core_machine.proofs.Places.{StandsNext, comes_next, upto-own, upto-other}
-use Rattle.core_machine.proofs.Refines.NextAnswers.{IsOpenFrom-next, over_answers-until}
-use Rattle.core_machine.proofs.Refines.Owners.{IsNewAnswer, StandsForOwner-own, StandsForOwner-other}
-use Rattle.core_machine.proofs.Refines.Clients.{Grows, IsOwn, StandsForClient-own, StandsForClient-other}
+-- What is kept for the paths stands for the answers after an event: with one more answer, or with none.
+use Rattle.fs_types.proofs.Common.{◌≡◌, ◌≢◌, ℕ, ◌<◌, ◌≤◌, true, false, List, length, set, slice_get, Some, None}
+use Rattle.fs_types.proofs.Common.{IsSome, is_some, true≢false, same_Some, refl, sym, ap, subst, ◌∙◌, arith, inl, inr, cases_eq, or_cases}
+use Rattle.fs_types.proofs.Common.{length-set, slice_get_within, get_or_from_slice_get, set-get_or, false_from_ne_true, ◌⊎◌}
+use Rattle.slot_plain.specs.Log.{Log}
+use Rattle.fs_script.specs.Vocabulary.{Answer, Given, answer_at, put_answer, Job, Piece, op_at, own_op, rank_in, need, marks_at, AddsAnswer}
+use Rattle.core_machine.specs.Vocabulary.{PathState, ClientPath, OwnedPath, Task, Places, answers_with}
+use Rattle.core_machine.specs.Vocabulary.{Follows, FollowsBy, KeepsAll, IsPieceBy, Stands}
+use Rattle.core_machine.specs.Vocabulary.{StandsForOwner, StandsForClient, file_hold, pending_hold}
+use Rattle.fs_script.proofs.CallerLemmas.{AddsAnswer-put, own_op-rank, slice_get-set_same, slice_get-set_other}
+use Rattle.fs_script.proofs.CallerLemmas.{slice_get-some, place_unique, none_from-is_some}
+use Rattle.core_machine.proofs.Places.{comes_next}
+use Rattle.core_machine.proofs.Refines.Owners.{IsNewAnswer, StandsForOwner-own, StandsForOwner-other, still-answered, length-grown, marks-grown}
+use Rattle.core_machine.proofs.Refines.NextAnswers.{marks-answered}
+use Rattle.core_machine.proofs.Refines.Clients.{StandsForClient-own, StandsForClient-other}
+use Rattle.core_machine.proofs.Refines.Stepped.{Stepped, event, given, given_then, states_then, stands_next, rank-is, is_own, stood, client_stood}
+use Rattle.core_machine.proofs.Refines.Stepped.{looked_up, pends, own_op-other}
 
--- ---- whose line it is
+module _ {s : Job} {paths : List (List ℕ)} {states : List PathState} {answers : Given} {turns : Places} {tasks : List Task}
+    {logs : List Log} {r : ℕ} (t : Stepped s paths states answers turns tasks logs r) where
+  -- each version of a journal has the same file then
+  pub record KeepsVersions (x y : OwnedPath) : Type 0 where
+    pub longer : length x.journal.items ≤ length y.journal.items
+    pub same : (v : ℕ) → v ≤ length x.journal.items → marks_at s (given t) x.journal.items v ≡ marks_at s (given_then t) y.journal.items v
 
--- it is no line of another client, nor of another path
-own_op-other : (o : OpLine) (r : ℕ) (p : List ℕ) → (o.rank ≡ r → o.path ≡ p → ⊥) → own_op r p (Some o) ≡ None
-own_op-other o r p other = grind (arith, common_steps, cond-false, false_from_ne_true, and_parts, eqb-true, bytes_eq-Decides)
+  -- after the event what is kept stands for the answers then
+  pub record PathsAfter : Type 0 where
+    pub grows : (k : ℕ) → IsSome (given t k) → IsSome (given_then t k)
+    pub back : (k : ℕ) → k ≢ t.number → IsSome (given_then t k) → IsSome (given t k)
+    pub own : (event t).fills ≡ true → IsSome (given_then t t.number)
+    pub each : (j : ℕ) (p : List ℕ) (x : PathState) → slice_get paths j ≡ Some p → slice_get (states_then t) j ≡ Some x
+        → Stands s (given_then t) turns.phase p x
+    pub versions : (j : ℕ) (x y : PathState) → slice_get states j ≡ Some x → slice_get (states_then t) j ≡ Some y
+        → KeepsVersions x.owned y.owned
 
--- ---- the line that was answered, and what is kept after it
+  -- the path of each place
+  path-at : (j : ℕ) (x : PathState) → slice_get states j ≡ Some x → (p : List ℕ) × (slice_get paths j ≡ Some p)
+  path-at j x at = slice_get-some paths j (let lt = slice_get_within states j x at in let size = t.held.kept in omega arith)
 
-pub record Answered (s : Job) (paths : List (List ℕ)) (states : List PathState) (answers : Given) (turns : Places) (r : ℕ) : Type 0 where
-  pub held : Holds s paths states answers turns
-  pub within : r < s.shape.clients
-  -- the client's next line, an operation of the run's phase
-  pub number : ℕ
-  pub line : OpLine
-  pub next : slice_get (program s r) (slice_index turns.places r) ≡ Some number
-  pub is : op_at s number ≡ Some line
-  pub now : phase s number ≡ turns.phase
-  -- its path, and what was kept for it and for the client
-  pub place : ℕ
-  pub at : slice_get paths place ≡ Some line.path
-  pub was : PathState
-  pub there : slice_get states place ≡ Some was
-  pub client : ClientPath
-  pub beside : slice_get was.clients r ≡ Some client
-  -- the answer, and what is kept after it
-  pub answer : Answer
-  pub then : PathState
-  pub own : ClientPath
-  pub changed : then.clients ≡ set was.clients r own
-  pub follows : Follows s number line.op was.owned client then.owned own answer
-  pub sound : AreSound s then.owned own
-
-module _ {s : Job} {paths : List (List ℕ)} {states : List PathState} {answers : Given} {turns : Places} {r : ℕ}
-    (t : Answered s paths states answers turns r) where
-  abbrev pub given : Answering
-  given = answer_at answers.list
-
-  abbrev pub given_then : Answering
-  given_then = answer_at (put_answer t.number t.answer answers.list)
-
-  stands_next : StandsNext s given r (slice_index turns.places r) t.number
-  stands_next = record { upto = t.held.upto r t.within; here = t.next }
-
-  pub rank-is : t.line.rank ≡ r
-  rank-is = grind (arith, common_steps, program-op)
-
-  is_answer : IsNewAnswer s given turns.phase t.number t.line t.answer given_then
-  is_answer = record { line = t.is; adds = AddsAnswer-put answers.list t.number t.answer; next = comes_next stands_next; phase = t.now }
-
-  pub is_own : IsOwn s given t.line.rank t.line.path t.number t.line
-  is_own = record {
-    own = ap (own_op t.line.rank t.line.path) t.is ∙ (rw (
-      eq-eqb t.line.rank t.line.rank refl,
-      (bytes_eq-Decides t.line.path t.line.path).1 refl,
-    ) refl);
-    from = IsOpenFrom-next s t.line.rank t.line.path given t.number (comes_next stands_next) (ap rank_in t.is)
-        (λ k own. own_op-rank t.line.rank t.line.path (op_at s k) own);
-    within = (let inside = op_at-within s t.number t.line t.is in omega (arith, inside.1));
-  }
-
-  pub stood : Stands s given turns.phase t.line.path t.was
-  stood = t.held.each t.place t.line.path t.was t.at t.there
-
-  pub client_stood : StandsForClient s given t.line.rank t.line.path t.was.owned t.client
-  client_stood = subst (λ i. StandsForClient s given i t.line.path t.was.owned t.client) (sym rank-is) (stood.clients r t.client t.beside)
-
-  -- ---- what is kept for its path
-
-  grows : Grows t.number (kept_event s t.was.owned t.client t.line.op).commits t.was.owned t.then.owned
-  grows = record { journal = t.follows.journal }
-
-  pends : pending_lines t.client ≡ pending s given t.line.rank t.line.path t.number
-  pends =
-      let lt = is_own.within in
-      client_stood.pending ∙ over_answers-until _ _ s t.line.rank t.line.path given t.number (script_end s) (omega arith) is_own.from
-
-  owner-after : StandsForOwner s given_then turns.phase t.then.owned
-  owner-after = StandsForOwner-own is_answer pends t.follows t.sound stood.owned
-
-  clients-after : (q : ℕ) (k : ClientPath) → slice_get t.then.clients q ≡ Some k
-      → StandsForClient s given_then q t.line.path t.then.owned k
-  clients-after q k found = elim (cases_eq q r) [
+  -- what is kept at a place before and after
+  kept-places : (P : PathState → PathState → Type 0) → P t.was t.then → ((j : ℕ) (x : PathState) → slice_get states j ≡ Some x → P x x)
+      → (j : ℕ) (x y : PathState) → slice_get states j ≡ Some x → slice_get (states_then t) j ≡ Some y → P x y
+  kept-places P here others j x y at found = elim (cases_eq j t.place) [
     | inl is ↦
-        let there = sym (slice_get-set_same t.was.clients r t.own (slice_get_within t.was.clients r t.client t.beside))
-        ∙ ap (slice_get (set t.was.clients r t.own)) (sym is) ∙ ap (λ ks. slice_get ks q) (sym t.changed) ∙ found in
-        subst (λ i. StandsForClient s given_then i t.line.path t.then.owned k) (rank-is
-        ∙ sym is) (subst (StandsForClient s given_then t.line.rank t.line.path t.then.owned) (same_Some t.own k there)
-        (StandsForClient-own is_answer is_own t.follows t.sound stood.owned owner-after client_stood))
-    | inr other ↦
-        let kept = sym (slice_get-set_other t.was.clients r q t.own other) ∙ ap (λ ks. slice_get ks q) (sym t.changed) ∙ found in
-        let none = ap (own_op q t.line.path) t.is ∙ own_op-other t.line q t.line.path (λ e same. other (sym e ∙ rank-is)) in
-        StandsForClient-other is_answer none grows stood.owned (stood.clients q k kept)
+        let was = same_Some t.was x (sym t.there ∙ ap (slice_get states) (sym is) ∙ at) in
+        let there = same_Some t.then y (sym (slice_get-set_same states t.place t.then (slice_get_within states t.place t.was t.there))
+        ∙ ap (slice_get (states_then t)) (sym is) ∙ found) in
+        subst (λ z. P z y) was (subst (P t.was) there here)
+    | inr other ↦ subst (P x) (same_Some x y (sym at ∙ sym (slice_get-set_other states t.place j t.then other) ∙ found)) (others j x at)
   ]
 
-  stands-after : Stands s given_then turns.phase t.line.path t.then
-  stands-after = record {
-    owned = owner-after;
-    sized = ap length t.changed ∙ length-set t.was.clients r t.own ∙ stood.sized;
-    clients = clients-after;
-  }
-
-  -- ---- what is kept for another path
-
-  stands-other : (p : List ℕ) (x : PathState) → t.line.path ≢ p → Stands s given turns.phase p x → Stands s given_then turns.phase p x
-  stands-other p x off stands = record {
-    owned = StandsForOwner-other is_answer stands.owned;
-    sized = stands.sized;
-    clients = λ q k found.
-        let none = ap (own_op q p) t.is ∙ own_op-other t.line q p (λ same e. off e) in
-        StandsForClient-other {commits = false} {y = x.owned} is_answer none (record { journal = refl }) stands.owned
-        (stands.clients q k found);
-  }
-
-  each-after : (j : ℕ) (p : List ℕ) (x : PathState) → slice_get paths j ≡ Some p → slice_get (set states t.place t.then) j ≡ Some x
-      → Stands s given_then turns.phase p x
-  each-after j p x at found = elim (cases_eq j t.place) [
+  -- the place that changes, and any other
+  placed : (P : List ℕ → PathState → Type 0) → P t.line.path t.then
+      → ((j : ℕ) (p : List ℕ) (x : PathState) → t.line.path ≢ p → slice_get paths j ≡ Some p → slice_get states j ≡ Some x → P p x)
+      → (j : ℕ) (p : List ℕ) (x : PathState) → slice_get paths j ≡ Some p → slice_get (states_then t) j ≡ Some x → P p x
+  placed P here others j p x at found = elim (cases_eq j t.place) [
     | inl is ↦
-        let here = same_Some t.line.path p (sym t.at ∙ ap (slice_get paths) (sym is) ∙ at) in
+        let path = same_Some t.line.path p (sym t.at ∙ ap (slice_get paths) (sym is) ∙ at) in
         let there = sym (slice_get-set_same states t.place t.then (slice_get_within states t.place t.was t.there))
-        ∙ ap (slice_get (set states t.place t.then)) (sym is) ∙ found in
-        subst (λ q. Stands s given_then turns.phase q x) here
-        (subst (Stands s given_then turns.phase t.line.path) (same_Some t.then x there) stands-after)
+        ∙ ap (slice_get (states_then t)) (sym is) ∙ found in
+        subst (λ q. P q x) path (subst (P t.line.path) (same_Some t.then x there) here)
     | inr other ↦
-        let kept = sym (slice_get-set_other states t.place j t.then other) ∙ found in
-        stands-other p x (λ e. other (place_unique paths j t.place t.line.path t.held.named.rising (at ∙ ap Some (sym e)) t.at))
-        (t.held.each j p x at kept)
+        others j p x (λ e. other (place_unique paths j t.place t.line.path t.held.named.rising (at ∙ ap Some (sym e)) t.at)) at
+        (sym (slice_get-set_other states t.place j t.then other) ∙ found)
   ]
 
-  -- ---- all that is kept
-
-  places-after : (q : ℕ) → q < s.shape.clients → IsAnsweredUpTo s given_then q (slice_index (after_line turns r).places q)
-  places-after q within = elim (cases_eq q r) [
-    | inl is ↦
-        let place = slice_index turns.places r in
-        let bound = t.within in
-        let size = t.held.clients in
-        subst (λ i. IsAnsweredUpTo s given_then i (slice_index (after_line turns r).places i)) (sym is)
-        (subst (IsAnsweredUpTo s given_then r) (sym (get_or-set_same turns.places r (place + 1) 0 (omega arith)))
-        (upto-own stands_next given_then t.answer is_answer.adds))
-    | inr other ↦
-        subst (IsAnsweredUpTo s given_then q) (sym (get_or-set_other turns.places r q (slice_index turns.places r + 1) 0 other))
-        (upto-other s q (slice_index turns.places q) t.line is_answer.adds t.is (λ e. other (sym e ∙ rank-is)) (t.held.upto q within))
+  -- the client whose line it is, and any other
+  pub cases_client : (q : ℕ) (k : ClientPath) → slice_get t.then.clients q ≡ Some k
+      → ((q ≡ r) × (t.own ≡ k)) ⊎ ((q ≢ r) × (slice_get t.was.clients q ≡ Some k))
+  cases_client q k found = elim (cases_eq q r) [
+    | inl is ↦ inl (
+      is,
+      same_Some t.own k (sym (slice_get-set_same t.was.clients r t.own (slice_get_within t.was.clients r t.client t.beside))
+          ∙ ap (slice_get (set t.was.clients r t.own)) (sym is) ∙ ap (λ ks. slice_get ks q) (sym t.changed) ∙ found),
+    )
+    | inr other ↦ inr (other, sym (slice_get-set_other t.was.clients r q t.own other) ∙ ap (λ ks. slice_get ks q) (sym t.changed) ∙ found)
   ]
 
-  past-after : (m : ℕ) → IsSome (given_then m) → phase s m ≤ turns.phase
-  past-after m counts = elim (cases_eq m t.number) [
-    | inl is ↦ (let here = ap (phase s) is ∙ t.now in omega arith)
-    | inr other ↦ t.held.past m (ap is_some (sym (is_answer.adds.others m other)) ∙ counts)
-  ]
+  -- ---- an event that answers the line
 
-  pub Holds-after : Holds s paths (set states t.place t.then)
-      (record { lines = answers.lines; list = put_answer t.number t.answer answers.list }) (after_line turns r)
-  Holds-after = record {
-    job = t.held.job;
-    same = t.held.same;
-    named = t.held.named;
-    kept = length-set states t.place t.then ∙ t.held.kept;
-    clients = length-set turns.places r (slice_index turns.places r + 1) ∙ t.held.clients;
-    room = t.held.room;
-    upto = places-after;
-    past = past-after;
-    each = each-after;
-  }
+  module _ (a : Answer) (is : t.answer ≡ Some a) (parts : (event t).fills ≡ true → (q : Piece) → is_some (pending_hold t.own q) ≡ true
+      → q.line ≡ t.number → q.part < need s t.number) where
+    follows : Follows s t.number t.line.op t.task (event t) t.was.owned t.client t.then.owned t.own a
+    follows = subst (FollowsBy s t.number t.line.op t.task (event t) t.was.owned t.client t.then.owned t.own) is t.follows.kept
+
+    list_is : given_then t ≡ answer_at (put_answer t.number a answers.list)
+    list_is = ap (λ b. answer_at (answers_with t.number b answers.list)) is
+
+    is_answer : IsNewAnswer s (given t) turns.phase t.number t.line a (given_then t)
+    is_answer = record {
+      line = t.is;
+      adds = subst (AddsAnswer (given t) t.number a) (sym list_is) (AddsAnswer-put answers.list t.number a);
+      next = comes_next (stands_next t);
+      phase = t.now;
+    }
+
+    own_pieces : (q : Piece) → is_some (pending_hold t.client q) ≡ true → IsPieceBy s (given t) t.line.rank t.line.path q
+    own_pieces q waits = (client_stood t).pieces q waits
+
+    owner-after : StandsForOwner s (given_then t) turns.phase t.line.path t.then.owned
+    owner-after = StandsForOwner-own is_answer (pends t) follows t.whole.sound.written (stood t).owned own_pieces
+
+    -- what another client has pending isn't in the file
+    others_apart : (q : ℕ) (k : ClientPath) → q ≢ r → slice_get t.was.clients q ≡ Some k → (x : Piece) → is_some (pending_hold k x) ≡ true
+        → file_hold t.then.owned.file x ≡ None
+    others_apart q k other at x waits = none_from-is_some (file_hold t.then.owned.file x) (false_from_ne_true _ (λ there.
+        let by_other = ((stood t).clients q k at).pieces x waits in
+        elim (or_cases (is_some (file_hold t.was.owned.file x)) (is_some (pending_hold t.client x)) (follows.owned x there)) [
+          | inl was ↦ true≢false (sym was ∙ ap is_some (((stood t).clients q k at).apart x waits))
+          | inr mine ↦
+              let by_own = (own_pieces x mine).own in
+              other (same_rank x.line q (own_op-rank q t.line.path (op_at s x.line) by_other.own)
+              (own_op-rank t.line.rank t.line.path (op_at s x.line) by_own))
+        ]))
+      where
+        same_rank : (n q : ℕ) → rank_in (op_at s n) ≡ Some q → rank_in (op_at s n) ≡ Some t.line.rank → q ≡ r
+        same_rank n q one two = same_Some q t.line.rank (sym one ∙ two) ∙ rank-is t
+
+    clients-after : (q : ℕ) (k : ClientPath) → slice_get t.then.clients q ≡ Some k
+        → StandsForClient s (given_then t) q t.line.path t.then.owned k
+    clients-after q k found = elim (cases_client q k found) [
+      | inl here ↦
+          subst (λ i. StandsForClient s (given_then t) i t.line.path t.then.owned k) (rank-is t ∙ sym here.0)
+          (subst (StandsForClient s (given_then t) t.line.rank t.line.path t.then.owned) here.1
+          (StandsForClient-own is_answer (is_own t) follows t.whole.sound parts (stood t).owned owner-after (looked_up t).within
+          (looked_up t).known (client_stood t)))
+      | inr other ↦
+          let none = ap (own_op q t.line.path) t.is ∙ own_op-other t.line q t.line.path (λ e same. other.0 (sym e ∙ rank-is t)) in
+          StandsForClient-other {commits = (event t).commits} is_answer none (record { journal = follows.journal })
+          (others_apart q k other.0 other.1) (stood t).owned ((stood t).clients q k other.1)
+    ]
+
+    stands-after : Stands s (given_then t) turns.phase t.line.path t.then
+    stands-after = record {
+      owned = owner-after;
+      sized = ap length t.changed ∙ length-set t.was.clients r t.own ∙ (stood t).sized;
+      clients = clients-after;
+    }
+
+    stands-other : (j : ℕ) (p : List ℕ) (x : PathState) → t.line.path ≢ p → slice_get paths j ≡ Some p → slice_get states j ≡ Some x
+        → Stands s (given_then t) turns.phase p x
+    stands-other j p x off at found =
+        let stands = t.held.each j p x at found in
+        record {
+          owned = StandsForOwner-other is_answer stands.owned;
+          sized = stands.sized;
+          clients = λ q k there.
+              let none = ap (own_op q p) t.is ∙ own_op-other t.line q p (λ same e. off e) in
+              StandsForClient-other {commits = false} {y = x.owned} is_answer none (record { journal = refl })
+              (stands.clients q k there).apart stands.owned (stands.clients q k there);
+        }
+
+    pub paths-answered : PathsAfter
+    paths-answered = record {
+      grows = λ k given_one. still-answered k is_answer.adds given_one;
+      back = λ k other given_one. ap is_some (sym (is_answer.adds.others k other)) ∙ given_one;
+      own = λ _. ap is_some is_answer.adds.added;
+      each = placed (Stands s (given_then t) turns.phase) stands-after stands-other;
+      versions = kept-places (λ x y. KeepsVersions x.owned y.owned)
+          (record {
+            longer = omega (arith, length-grown t.was.owned.journal.items t.number (event t).commits, ap length follows.journal);
+            same = λ v le.
+                marks-grown t.was.owned.journal.items v (event t).commits is_answer.adds is_answer.next (stood t).owned.answered le
+                ∙ ap (λ (j : List ℕ). marks_at s (given_then t) j v) (sym follows.journal);
+          })
+          (λ j x at. record {
+            longer = omega arith;
+            same = λ v le.
+                let p = path-at j x at in
+                marks-answered s (given t) (given_then t) x.owned.journal.items t.number v a is_answer.adds is_answer.next
+                (t.held.each j p.0 x p.1 at).owned.answered;
+          });
+    }
+
+  -- ---- an event that doesn't
+
+  module _ (is : t.answer ≡ None) where
+    keeps_all : KeepsAll (event t) t.was.owned t.client t.then.owned t.own
+    keeps_all = subst (FollowsBy s t.number t.line.op t.task (event t) t.was.owned t.client t.then.owned t.own) is t.follows.kept
+
+    list_same : given_then t ≡ given t
+    list_same = ap (λ b. answer_at (answers_with t.number b answers.list)) is
+
+    pub same_state : t.then ≡ t.was
+    same_state =
+        let clients = t.changed ∙ ap (set t.was.clients r) keeps_all.client
+        ∙ ap (set t.was.clients r) (sym (get_or_from_slice_get t.was.clients r t.client t.client t.beside))
+        ∙ set-get_or t.was.clients r t.client in
+        λ i. record { owned = keeps_all.owned i; clients = clients i }
+
+    pub paths-unanswered : PathsAfter
+    paths-unanswered = record {
+      grows = λ k given_one. subst (λ A. IsSome (A k)) (sym list_same) given_one;
+      back = λ k _ given_one. subst (λ A. IsSome (A k)) list_same given_one;
+      own = λ fills. absurd (true≢false (sym fills ∙ keeps_all.fills));
+      each = placed (Stands s (given_then t) turns.phase)
+          (subst (Stands s (given_then t) turns.phase t.line.path) (sym same_state)
+          (subst (λ A. Stands s A turns.phase t.line.path t.was) (sym list_same) (stood t)))
+          (λ j p x _ at found. subst (λ A. Stands s A turns.phase p x) (sym list_same) (t.held.each j p x at found));
+      versions = kept-places (λ x y. KeepsVersions x.owned y.owned)
+          (subst (λ (y : PathState). KeepsVersions t.was.owned y.owned) (sym same_state)
+          (record { longer = omega arith; same = λ v le. ap (λ A. marks_at s A t.was.owned.journal.items v) (sym list_same) }))
+          (λ j x at. record { longer = omega arith; same = λ v le. ap (λ A. marks_at s A x.owned.journal.items v) (sym list_same) });
+    }

@@ -1,7 +1,7 @@
 -- What an answer to the line that comes next changes of what its client knows, as seen from the script's end.
 use Rattle.fs_types.proofs.Common.{common_steps, ◌≡◌, ℕ, zero, suc, ◌≤◌, List, Option, Some, None, IsSome, refl, ap, ◌∙◌, inl, inr, arith}
 use Rattle.fs_types.proofs.Common.{cases_lt, AllByRecursion}
-use Rattle.fs_script.specs.Vocabulary.{Answer, Job, own_at, rank_at, bytes_of, Answering, one_more, over_answers, state, AddsAnswer}
+use Rattle.fs_script.specs.Vocabulary.{Answer, Job, own_at, rank_at, marks_in, Answering, one_more, over_answers, marks_at, AddsAnswer}
 use Rattle.fs_script.specs.Vocabulary.{pending_at, ComesNext, AgreeBefore, SamePending}
 use Rattle.core_machine.specs.Vocabulary.{Op}
 use Rattle.fs_script.proofs.CallerLemmas.{state_in-agree, pending_at-answered, some_of, AllByRecursion-weaker}
@@ -54,7 +54,7 @@ SamePending-answered s A B J n a adds next =
     let given = some_of (A m) answered in
     pending_at-answered m given.0 adds next given.1)
 
--- the file at a version of a journal whose lines were all answered
-pub state-answered : (s : Job) (A B : Answering) (J : List ℕ) (n v : ℕ) (a : Answer) → AddsAnswer A n a B → ComesNext s A n
-    → AllByRecursion (λ m. IsSome (A m)) J → state s A J v ≡ state s B J v
-state-answered s A B J n v a adds next all = state_in-agree s (bytes_of s) A B J v (SamePending-answered s A B J n a adds next all)
+-- the marks of the file at a version of a journal whose lines were all answered
+pub marks-answered : (s : Job) (A B : Answering) (J : List ℕ) (n v : ℕ) (a : Answer) → AddsAnswer A n a B → ComesNext s A n
+    → AllByRecursion (λ m. IsSome (A m)) J → marks_at s A J v ≡ marks_at s B J v
+marks-answered s A B J n v a adds next all = state_in-agree s (marks_in s) A B J v (SamePending-answered s A B J n a adds next all)

@@ -1,13 +1,14 @@
 -- The owner's part of a path after an event: of another path, and of the line's own.
 use Rattle.fs_types.proofs.Common.{common_steps, ◌≡◌, ℕ, ◌+◌, ◌≤◌, Bool, true, false, cond, List, [], ◌∷◌, ◌++◌, length, Option, Some}
 use Rattle.fs_types.proofs.Common.{IsSome, is_some, nat_lt, count_by, refl, sym, ap, ◌∙◌, subst, arith, le-ltb, AllByRecursion, length_push}
-use Rattle.fs_types.proofs.Common.{sum_by_push, count_by-le-length}
-use Rattle.fs_script.specs.Vocabulary.{Answer, File, Job, op_at, phase, bytes_of, Answering, pending, pending_for, pending_at, effect_of}
-use Rattle.fs_script.specs.Vocabulary.{effect_in, state, AddsAnswer, ComesNext}
-use Rattle.core_machine.specs.Vocabulary.{OpLine, OwnedPath, ClientPath, known_of, AreSound, file_of, known_from, pending_lines, Follows}
-use Rattle.core_machine.specs.Vocabulary.{kept_event, StandsForOwner}
+use Rattle.fs_types.proofs.Common.{sum_by_push, count_by-le-length, IfSome, inl, inr, or_cases}
+use Rattle.fs_script.specs.Vocabulary.{Answer, File, Job, Mark, Piece, op_at, phase, marks_in, Answering, pending, pending_for, pending_at, effect_of}
+use Rattle.fs_script.specs.Vocabulary.{effect_in, marks_at, AddsAnswer, ComesNext}
+use Rattle.core_machine.specs.Vocabulary.{OpLine, OwnedPath, ClientPath, Event, Task, known_of, IsFile, file_hold}
+use Rattle.core_machine.specs.Vocabulary.{file_marks, known_from, pending_hold, pending_lines, Follows}
+use Rattle.core_machine.specs.Vocabulary.{StandsForOwner, IsPieceBy, IsPieceOn}
 use Rattle.fs_script.proofs.CallerLemmas.{state_in-push, state_in-push_last, pending_at-next, AllByRecursion-weaker, AllByRecursion-push}
-use Rattle.core_machine.proofs.Refines.NextAnswers.{state-answered}
+use Rattle.core_machine.proofs.Refines.NextAnswers.{marks-answered}
 
 -- line n, the operation o of the run's phase, comes next and is answered a
 pub record IsNewAnswer (s : Job) (A : Answering) (now n : ℕ) (o : OpLine) (a : Answer) (B : Answering) : Type 0 where
@@ -35,36 +36,47 @@ length-grown J n true = omega (arith, length_push J n)
 length-grown J n false = omega arith
 
 -- its file stays, as the line is answered and perhaps committed
-pub state-grown : {s : Job} {A B : Answering} (J : List ℕ) {n : ℕ} (v : ℕ) {a : Answer} (commits : Bool) → AddsAnswer A n a B
-    → ComesNext s A n → AllByRecursion (λ m. IsSome (A m)) J → v ≤ length J → state s A J v ≡ state s B (grown J n commits) v
-state-grown {s} {A} {B} J {n} v {a} true adds next all within = state-answered s A B J n v a adds next all
-    ∙ sym (state_in-push s (bytes_of s) B J n v within)
-state-grown {s} {A} {B} J {n} v {a} false adds next all within = state-answered s A B J n v a adds next all
+pub marks-grown : {s : Job} {A B : Answering} (J : List ℕ) {n : ℕ} (v : ℕ) {a : Answer} (commits : Bool) → AddsAnswer A n a B
+    → ComesNext s A n → AllByRecursion (λ m. IsSome (A m)) J → v ≤ length J → marks_at s A J v ≡ marks_at s B (grown J n commits) v
+marks-grown {s} {A} {B} J {n} v {a} true adds next all within = marks-answered s A B J n v a adds next all
+    ∙ sym (state_in-push s (marks_in s) B J n v within)
+marks-grown {s} {A} {B} J {n} v {a} false adds next all within = marks-answered s A B J n v a adds next all
 
 -- the file that the line leaves
-state-now : {s : Job} {A B : Answering} {now n : ℕ} {o : OpLine} {a : Answer} (J : List ℕ) (commits : Bool) (f : File ℕ)
+marks-now : {s : Job} {A B : Answering} {now n : ℕ} {o : OpLine} {a : Answer} (J : List ℕ) (commits : Bool) (f : File (Option Mark))
     → IsNewAnswer s A now n o a B → AllByRecursion (λ m. IsSome (A m)) J
-    → f ≡ state s A J (length J) → cond commits (effect_of s (bytes_of s) o.op (pending s A o.rank o.path n) f) f
-    ≡ state s B (grown J n commits) (length (grown J n commits))
-state-now {s} {A} {B} {n} {a} J false f h all here = here ∙ state-answered s A B J n (length J) a h.adds h.next all
-state-now {s} {A} {B} {n} {o} {a} J true f h all here =
-    let before : f ≡ state s B J (length J) = here ∙ state-answered s A B J n (length J) a h.adds h.next all in
+    → f ≡ marks_at s A J (length J) → cond commits (effect_of s (marks_in s) o.op (pending s A o.rank o.path n) f) f
+    ≡ marks_at s B (grown J n commits) (length (grown J n commits))
+marks-now {s} {A} {B} {n} {a} J false f h all here = here ∙ marks-answered s A B J n (length J) a h.adds h.next all
+marks-now {s} {A} {B} {n} {o} {a} J true f h all here =
+    let before : f ≡ marks_at s B J (length J) = here ∙ marks-answered s A B J n (length J) a h.adds h.next all in
     let pends : pending_at s B n ≡ pending s A o.rank o.path n = sym (pending_at-next s h.adds) ∙ ap (pending_for s A n) h.line in
-    sym (state_in-push_last s (bytes_of s) B J n (length (J ++ n ∷ [])) (omega (arith, length_push J n))
-    ∙ ap (λ (x : Option OpLine). effect_in s (bytes_of s) x (pending_at s B n) (state s B J (length J))) h.line
-    ∙ ap (λ (q : List ℕ). effect_of s (bytes_of s) o.op q (state s B J (length J))) pends
-    ∙ ap (effect_of s (bytes_of s) o.op (pending s A o.rank o.path n)) (sym before))
+    sym (state_in-push_last s (marks_in s) B J n (length (J ++ n ∷ [])) (omega (arith, length_push J n))
+    ∙ ap (λ (x : Option OpLine). effect_in s (marks_in s) x (pending_at s B n) (marks_at s B J (length J))) h.line
+    ∙ ap (λ (q : List ℕ). effect_of s (marks_in s) o.op q (marks_at s B J (length J))) pends
+    ∙ ap (effect_of s (marks_in s) o.op (pending s A o.rank o.path n)) (sym before))
+
+-- ---- pieces of lines that were answered
+
+pub still-by : {s : Job} {A B : Answering} {n r : ℕ} {p : List ℕ} {a : Answer} (q : Piece) → AddsAnswer A n a B → IsPieceBy s A r p q
+    → IsPieceBy s B r p q
+still-by q adds is = record { own = is.own; answered = still-answered q.line adds is.answered; part = is.part }
+
+pub still-on : {s : Job} {A B : Answering} {n : ℕ} {p : List ℕ} {a : Answer} (q : Piece) → AddsAnswer A n a B → IsPieceOn s A p q
+    → IsPieceOn s B p q
+still-on q adds is = record { client = is.client; by_client = still-by q adds is.by_client }
 
 -- ---- the part of another path
 
-pub StandsForOwner-other : {s : Job} {A B : Answering} {now n : ℕ} {o : OpLine} {a : Answer} {x : OwnedPath} → IsNewAnswer s A now n o a B
-    → StandsForOwner s A now x → StandsForOwner s B now x
-StandsForOwner-other {s} {A} {B} {n} {a} {x} h stands = record {
+pub StandsForOwner-other : {s : Job} {A B : Answering} {now n : ℕ} {o : OpLine} {a : Answer} {p : List ℕ} {x : OwnedPath}
+    → IsNewAnswer s A now n o a B → StandsForOwner s A now p x → StandsForOwner s B now p x
+StandsForOwner-other {s} {A} {B} {n = n} {a = a} {x = x} h stands = record {
   answered = all-answered x.journal.items h.adds stands.answered;
   written = stands.written;
-  file = stands.file ∙ state-answered s A B x.journal.items n (length x.journal.items) a h.adds h.next stands.answered;
+  marks = stands.marks ∙ marks-answered s A B x.journal.items n (length x.journal.items) a h.adds h.next stands.answered;
+  pieces = λ q held. still-on q h.adds (stands.pieces q held);
   board = stands.board;
-  known = stands.known ∙ ap known_of (state-answered s A B x.journal.items n x.board.version a h.adds h.next stands.answered);
+  known = stands.known ∙ ap known_of (marks-answered s A B x.journal.items n x.board.version a h.adds h.next stands.answered);
 }
 
 -- ---- the part of the line's own path
@@ -86,21 +98,26 @@ answered-grown {A} {B} {n} {a} J true h all = AllByRecursion-push (λ m. IsSome 
     (ap is_some h.adds.added)
 answered-grown {A} {B} {n} {a} J false h all = all-answered J h.adds all
 
-pub StandsForOwner-own : {s : Job} {A B : Answering} {now n : ℕ} {o : OpLine} {a : Answer} {x y : OwnedPath} {k l : ClientPath}
-    → IsNewAnswer s A now n o a B → pending_lines k ≡ pending s A o.rank o.path n
-    → Follows s n o.op x k y l a → AreSound s y l → StandsForOwner s A now x → StandsForOwner s B now y
-StandsForOwner-own {s} {A} {B} {now} {n} {o} {a} {x} {y} {k} h pends follows sound stands =
+pub StandsForOwner-own : {s : Job} {A B : Answering} {now n : ℕ} {o : OpLine} {t : Task} {e : Event} {a : Answer} {x y : OwnedPath}
+    {k l : ClientPath} → IsNewAnswer s A now n o a B → pending_lines k ≡ pending s A o.rank o.path n
+    → Follows s n o.op t e x k y l a → IfSome y.file IsFile → StandsForOwner s A now o.path x
+    → ((q : Piece) → is_some (pending_hold k q) ≡ true → IsPieceBy s A o.rank o.path q) → StandsForOwner s B now o.path y
+StandsForOwner-own {s} {A} {B} {now} {n} {o} {t} {e} {a} {x} {y} {k} h pends follows written stands own =
     let J = x.journal.items in
-    let commits = (kept_event s x k o.op).commits in
+    let commits = e.commits in
     let K : y.journal.items ≡ grown J n commits = follows.journal in
     let board : y.board.version ≡ x.board.version = ap (λ b. b.version) follows.board in
     record {
       answered = subst (λ j. AllByRecursion (λ m. IsSome (B m)) j) (sym K) (answered-grown J commits h stands.answered);
-      written = sound.written;
-      file = follows.file ∙ ap (λ (q : List ℕ). cond commits (effect_of s (bytes_of s) o.op q (file_of s x.file)) (file_of s x.file)) pends
-          ∙ state-now J commits (file_of s x.file) h stands.answered stands.file ∙ ap (λ (j : List ℕ). state s B j (length j)) (sym K);
+      written = written;
+      marks = follows.marks ∙ ap (λ (q : List ℕ). cond commits (effect_of s (marks_in s) o.op q (file_marks x.file)) (file_marks x.file)) pends
+          ∙ marks-now J commits (file_marks x.file) h stands.answered stands.marks ∙ ap (λ (j : List ℕ). marks_at s B j (length j)) (sym K);
+      pieces = λ q held. still-on q h.adds (elim (or_cases (is_some (file_hold x.file q)) (is_some (pending_hold k q)) (follows.owned q held)) [
+        | inl there ↦ stands.pieces q there
+        | inr waits ↦ record { client = o.rank; by_client = own q waits }
+      ]);
       board = board ∙ stands.board ∙ sym (ap (count_by (λ m. nat_lt (phase s m) now)) K ∙ told-grown s J n now commits h.phase);
-      known = ap known_from follows.board ∙ stands.known ∙ ap known_of (state-grown J x.board.version commits h.adds h.next stands.answered
+      known = ap known_from follows.board ∙ stands.known ∙ ap known_of (marks-grown J x.board.version commits h.adds h.next stands.answered
           (subst (λ v. v ≤ length J) (sym stands.board) (told-within s J now))
-          ∙ ap (λ (j : List ℕ). state s B j x.board.version) (sym K) ∙ ap (state s B y.journal.items) (sym board));
+          ∙ ap (λ (j : List ℕ). marks_at s B j x.board.version) (sym K) ∙ ap (marks_at s B y.journal.items) (sym board));
     }

@@ -1,13 +1,16 @@
 -- What is read of a path in what the core keeps: its journal and its file at the moment.
 use Rattle.fs_types.proofs.Common.{common_steps, ◌≡◌, ℕ, List, [], length, map, Some, None, Vec, false, sym, ap}
-use Rattle.fs_types.proofs.Common.{◌∙◌, arith, slice_get, Contains, slice_get-get_or}
-use Rattle.fs_script.specs.Vocabulary.{Given, answer_at, Job, state, AreRising, journal_of}
+use Rattle.fs_types.proofs.Common.{◌∙◌, arith, get_or, slice_get, Contains, slice_get-get_or}
+use Rattle.fs_script.specs.Vocabulary.{Given, answer_at, Job, marked_bytes, state, AreRising, journal_of}
 use Rattle.core_machine.specs.declared.owner_files.OwnerFiles.{OwnerFiles}
+use Rattle.slot_plain.specs.Log.{Log}
+use Rattle.core_machine.specs.Logs.{AreInMemory}
 use Rattle.core_machine.specs.OwnerFiles.{owned_at}
 use Rattle.core_machine.specs.PathStates.{AreKept, states_of}
-use Rattle.core_machine.specs.Vocabulary.{ClientPath, OwnedPath, PathState, file_of, file_now, Places, journals_of, moment_of, Holds, Stands}
+use Rattle.core_machine.specs.Vocabulary.{ClientPath, OwnedPath, PathState, Task, file_of, file_now, Places}
+use Rattle.core_machine.specs.Vocabulary.{journals_of, moment_of, Holds, HoldsStand, Stands, file_hold}
 use Rattle.fs_script.proofs.CallerLemmas.{AllByRecursion-from_contained, slice_get-map_some, slice_get-some}
-use Rattle.fs_script.proofs.CallerLemmas.{journal_of-zip, journal_of-absent}
+use Rattle.fs_script.proofs.CallerLemmas.{journal_of-zip, journal_of-absent, state-by_marks}
 use Rattle.core_machine.proofs.Refines.JournalsKept.{journal_kept}
 use Rattle.core_machine.proofs.Refines.StatesOfPaths.{states-at}
 
@@ -43,22 +46,34 @@ pub journal-absent : (paths : List (List ℕ)) (states : List PathState) (p : Li
 journal-absent paths states p absent = sym (journal_of-absent paths (map journal_kept states) p absent)
 
 -- what was found of a path stands for it
-pub Stands-read : {s : Job} {paths : List (List ℕ)} {states : List PathState} {answers : Given} {turns : Places} (p : List ℕ)
-    (x : OwnedPath) (held : Holds s paths states answers turns) (here : IsThere paths states p x)
+pub Stands-read : {s : Job} {paths : List (List ℕ)} {states : List PathState} {answers : Given} {turns : Places} {tasks : List Task}
+    {logs : List Log} (p : List ℕ) (x : OwnedPath) (held : Holds s paths states answers turns tasks logs) (here : IsThere paths states p x)
     → Stands s (answer_at answers.list) turns.phase p (record { owned = x; clients = here.clients })
 Stands-read p x held here = held.each here.place p (record { owned = x; clients = here.clients }) here.at here.there
 
+-- and each hold of it is of a slot that has its piece
+pub stand-read : {s : Job} {paths : List (List ℕ)} {states : List PathState} {answers : Given} {turns : Places} {tasks : List Task}
+    {logs : List Log} (p : List ℕ) (x : OwnedPath) → Holds s paths states answers turns tasks logs → IsThere paths states p x
+    → HoldsStand s logs (file_hold x.file)
+stand-read p x held here = (held.path_holds here.place (record { owned = x; clients = here.clients }) here.there).files
+
+-- and all logs are in memory
+pub memory-read : {s : Job} {paths : List (List ℕ)} {states : List PathState} {answers : Given} {turns : Places} {tasks : List Task}
+    {logs : List Log} → Holds s paths states answers turns tasks logs → AreInMemory s logs
+memory-read {logs} held k d within = (held.logs_stand.each k (get_or logs k d) (slice_get-get_or logs k d within)).memory
+
 -- the file of a path is that of the moment
-pub file-read : {s : Job} {paths : List (List ℕ)} {states : List PathState} {answers : Given} {turns : Places} (p : List ℕ)
-    (x : OwnedPath) → Holds s paths states answers turns → IsThere paths states p x
-    → file_of s x.file ≡ file_now (moment_of s paths states answers turns false) p
+pub file-read : {s : Job} {paths : List (List ℕ)} {states : List PathState} {answers : Given} {turns : Places} {tasks : List Task}
+    {logs : List Log} (p : List ℕ) (x : OwnedPath) → Holds s paths states answers turns tasks logs → IsThere paths states p x
+    → file_of s x.file ≡ file_now (moment_of s paths states answers turns tasks logs false) p
 file-read {s} {paths} {states} {answers} p x held here =
-    (Stands-read p x held here).owned.file ∙ ap (λ (j : List ℕ). state s (answer_at answers.list) j (length j))
-    (journal-read paths states p x held.named.rising here)
+    let J = x.journal.items in
+    ap (marked_bytes s) (Stands-read p x held here).owned.marks ∙ state-by_marks s (answer_at answers.list) J (length J) held.job.chunk
+    ∙ ap (λ (j : List ℕ). state s (answer_at answers.list) j (length j)) (journal-read paths states p x held.named.rising here)
 
 -- a path that isn't among them has no file
-pub file-absent : (s : Job) (paths : List (List ℕ)) (states : List PathState) (answers : Given) (turns : Places) (p : List ℕ)
-    → (Contains paths p → ⊥) → None ≡ file_now (moment_of s paths states answers turns false) p
-file-absent s paths states answers turns p absent = grind (arith, common_steps, length, journal-absent)
+pub file-absent : (s : Job) (paths : List (List ℕ)) (states : List PathState) (answers : Given) (turns : Places) (tasks : List Task)
+    (logs : List Log) (p : List ℕ) → (Contains paths p → ⊥) → None ≡ file_now (moment_of s paths states answers turns tasks logs false) p
+file-absent s paths states answers turns tasks logs p absent = grind (arith, common_steps, length, journal-absent)
 
 pub ruleset kept_reads = (journal-absent, file-absent)

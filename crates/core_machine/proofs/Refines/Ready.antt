@@ -4,14 +4,15 @@ use Rattle.fs_types.proofs.Common.{Some, None, is_some, slice_index, true≢fals
 use Rattle.fs_types.proofs.Common.{slice_get, range_with_len, cases_Bool, cases_lt, false_from_ne_true, ltb-false, le-leb, or_left}
 use Rattle.fs_types.proofs.Common.{or_right, ne_eqb, none-some, same_Some, slice_get-get_or, slice_get_within}
 use Rattle.fs_script.specs.Vocabulary.{Given, answer_at, Job, op_at, is_of_rank, phase, program}
-use Rattle.core_machine.specs.Vocabulary.{OpLine, PathState, Moment, has_begun, may_come, next_line, ready, Places, IsInPhase, going}
+use Rattle.slot_plain.specs.Log.{Log}
+use Rattle.core_machine.specs.Vocabulary.{OpLine, PathState, Moment, Task, has_begun, may_come, next_line, ready, Places, IsInPhase, going}
 use Rattle.core_machine.specs.Vocabulary.{next_in, is_of_phase, moment_of, Holds}
 use Rattle.fs_script.proofs.CallerLemmas.{phase-rises, passes, passing-rise, program-place, program-op}
 use Rattle.core_machine.proofs.Legal.Phases.{has_begun-from, begun-answered}
 use Rattle.core_machine.proofs.Places.{StandsNext, unanswered}
 use Rattle.core_machine.proofs.Programs.Going.{line-of_phase}
 use Rattle.core_machine.proofs.Programs.NextLines.{next_in-within}
-use Rattle.core_machine.proofs.Refines.Moments.{client_of-places}
+use Rattle.core_machine.proofs.Refines.Steps.{client-place}
 
 -- tests that agree at each number of a range keep the same numbers
 filter-range : (p q : ℕ → Bool) (a len : ℕ) → ((n : ℕ) → a ≤ n → n < a + len → p n ≡ q n)
@@ -23,16 +24,16 @@ filter-range p q a (suc len) agree =
     (agree a (omega arith) (omega arith)) ∙ ap (λ ns. cond (q a) (a ∷ ns) ns) rest
 
 module _ {s : Job} {paths : List (List ℕ)} {states : List PathState} {answers : Given} {places : List ℕ} {now : ℕ}
-    (held : Holds s paths states answers (record { job = s; places = places; phase = now }))
+    {tasks : List Task} {logs : List Log} (held : Holds s paths states answers (record { job = s; places = places; phase = now }) tasks logs)
     (phases : IsInPhase (record { job = s; places = places; phase = now })) where
   abbrev turns : Places
   turns = record { job = s; places = places; phase = now }
 
   abbrev m : Moment
-  m = moment_of s paths states answers turns false
+  m = moment_of s paths states answers turns tasks logs false
 
   next-is : (r : ℕ) → next_line m r ≡ next_in turns r
-  next-is r = ap (λ c. slice_get (program s r) c.place) (client_of-places places r)
+  next-is r = ap (slice_get (program s r)) (client-place places tasks r (held.clients ∙ sym held.tasked))
 
   -- a client's next line has no answer
   next-unanswered : (r n : ℕ) → r < s.shape.clients → next_in turns r ≡ Some n → answer_at answers.list n ≡ None
@@ -44,7 +45,7 @@ module _ {s : Job} {paths : List (List ℕ)} {states : List PathState} {answers 
   none_earlier : (k : ℕ) (o : OpLine) → op_at s k ≡ Some o → is_some (answer_at answers.list k) ≡ false → now ≤ phase s k
   none_earlier k o is fresh =
       let r = o.rank in
-      let within = held.job k o is in
+      let within = held.job.clients k o is in
       let at = program-place s k o is in
       let past = ltb-false at.0 (slice_index places r) (sym (held.upto r within at.0 k at.1) ∙ fresh) in
       let inside = slice_get_within (program s r) at.0 k at.1 in
@@ -78,7 +79,7 @@ module _ {s : Job} {paths : List (List ℕ)} {states : List PathState} {answers 
         let at : slice_get (going turns) 0 ≡ Some q = ap (λ xs. slice_get xs 0) e in
         let pass = (passes (λ i. is_of_phase s now (next_in turns i)) 0 s.shape.clients 0 q at).0 in
         let line = line-of_phase s now (next_in turns q) pass in
-        (q, line.0, next_in-within turns q line.0 held.job line.1, line.1, line.2)
+        (q, line.0, next_in-within turns q line.0 held.job.clients line.1, line.1, line.2)
 
   -- and a line of a later phase hasn't
   waits : (r n : ℕ) → r < s.shape.clients → next_in turns r ≡ Some n → now < phase s n → has_begun m n ≡ false
@@ -101,11 +102,12 @@ module _ {s : Job} {paths : List (List ℕ)} {states : List PathState} {answers 
   pub ready-is : ready m ≡ going turns
   ready-is = grind (arith, common_steps, filter-range, next-is, comes-is)
 
-pub ready-kept : {s : Job} {paths : List (List ℕ)} {states : List PathState} {answers : Given} {turns : Places}
-    → Holds s paths states answers turns → IsInPhase turns → ready (moment_of s paths states answers turns false) ≡ going turns
-ready-kept {s} {paths} {states} {answers} {turns} held phases =
+pub ready-kept : {s : Job} {paths : List (List ℕ)} {states : List PathState} {answers : Given} {turns : Places} {tasks : List Task}
+    {logs : List Log} → Holds s paths states answers turns tasks logs → IsInPhase turns
+    → ready (moment_of s paths states answers turns tasks logs false) ≡ going turns
+ready-kept {s} {paths} {states} {answers} {turns} {tasks} {logs} held phases =
     let e : record { job = s; places = turns.places; phase = turns.phase } ≡ turns =
     (λ i. record { job = (sym held.same) i; places = turns.places; phase = turns.phase }) in
-    let P : Places → Type 0 = λ v. Holds s paths states answers v → IsInPhase v
-    → ready (moment_of s paths states answers v false) ≡ going v in
+    let P : Places → Type 0 = λ v. Holds s paths states answers v tasks logs → IsInPhase v
+    → ready (moment_of s paths states answers v tasks logs false) ≡ going v in
     subst P e (λ h p. ready-is h p) held phases

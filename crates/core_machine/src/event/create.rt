@@ -1,12 +1,13 @@
 //! A create: an empty file where there is none.
 
-ghost use Rattle.std.specs.Prelude.{◌≡◌, ◌^◌, ◌<◌, ◌+◌, length, IfOk, OnOk};
+ghost use Rattle.std.specs.Prelude.{◌≡◌, ◌^◌, ◌<◌, ◌+◌, ℕ, false, length, IfOk, OnOk};
 ghost use Rattle.fs_script.specs.Job.{Job};
-ghost use Rattle.core_machine.specs.Follows.{Follows};
+ghost use Rattle.core_machine.specs.Follows.{Ends, Follows, KeepsHolds, kept_event};
 ghost use Rattle.core_machine.specs.Kept.{AreSound};
 
-use crate::file_extents::FileExtents;
+use crate::file_spans::FileSpans;
 use crate::path_state::{ClientPath, OwnedPath};
+use crate::task::Task;
 use fs_script::Op;
 use fs_types::{Answer, LineNo, Want};
 use std::alloc::Global;
@@ -18,8 +19,12 @@ pub fn create(
     path: &mut OwnedPath,
     own: &mut ClientPath,
 ) -> Result<Answer, Want>
-    ensures follows { IfOk result (λ a. (s : Job)
-        → Follows s n Op.Create path.old own.old path.new own.new a) }
+    ensures ends { IfOk result (λ a. (s : Job) (free : ℕ)
+        → Ends (kept_event s path.old own.old free Task.Idle Op.Create) false a) }
+    ensures follows { IfOk result (λ a. (s : Job) (free : ℕ) → Follows s n Op.Create Task.Idle
+        (kept_event s path.old own.old free Task.Idle Op.Create)
+        path.old own.old path.new own.new a) }
+    ensures holds { OnOk result (KeepsHolds path.old own.old path.new own.new) }
     ensures sound { OnOk result ((s : Job) → AreSound s path.old own.old
         → AreSound s path.new own.new) }
 {
@@ -29,7 +34,7 @@ pub fn create(
         return Ok(Answer::Exists { v });
     }
     path.journal.push(n)?;
-    path.file = Some(FileExtents::new(alloc));
+    path.file = Some(FileSpans::new(alloc));
     own.is_open = true;
     let v = path.version();
     own.note(v, true);

@@ -1,18 +1,23 @@
 //! An open: the file as its owner has it.
 
-ghost use Rattle.std.specs.Prelude.{◌≡◌, ℕ, ◌+◌, ◌^◌, ◌<◌, length};
+ghost use Rattle.std.specs.Prelude.{◌≡◌, ℕ, ◌+◌, ◌^◌, ◌<◌, false, length};
 ghost use Rattle.fs_script.specs.Job.{Job};
-ghost use Rattle.core_machine.specs.Follows.{Follows};
+ghost use Rattle.core_machine.specs.Follows.{Ends, Follows, KeepsHolds, kept_event};
 ghost use Rattle.core_machine.specs.Kept.{AreSound};
 
 use crate::path_state::{ClientPath, OwnedPath};
+use crate::task::Task;
 use fs_script::Op;
 use fs_types::Answer;
 
 /// Answers an open.
 pub fn open(path: &OwnedPath, own: &mut ClientPath) -> Answer
-    ensures follows { (s : Job) (n : ℕ)
-        → Follows s n Op.Open path.now own.old path.now own.new result }
+    ensures ends { (s : Job) (free : ℕ)
+        → Ends (kept_event s path.now own.old free Task.Idle Op.Open) false result }
+    ensures follows { (s : Job) (n free : ℕ) → Follows s n Op.Open Task.Idle
+        (kept_event s path.now own.old free Task.Idle Op.Open)
+        path.now own.old path.now own.new result }
+    ensures holds { KeepsHolds path.now own.old path.now own.new }
     ensures sound { (s : Job) → AreSound s path.now own.old → AreSound s path.now own.new }
 {
     let v = path.version();

@@ -1,27 +1,32 @@
-//! A read: the bytes of the file at its owner's present version.
+//! A read: it looks up what its range shows and pins the pieces of that, fetches one run of bytes
+//! in each event that follows, and in the last one lets the pieces go and shows the bytes.
 
-ghost use Rattle.std.specs.Prelude.{◌≡◌, ℕ, ◌+◌, ◌^◌, ◌<◌, ◌≤◌, length, IfOk, OnOk};
-ghost use Rattle.fs_types.specs.Overwrite.{shown};
+ghost use Rattle.std.specs.Prelude.{◌≡◌, ◌+◌, ◌-◌, ◌^◌, ◌<◌, ℕ, true, length, IfOk, OnOk};
+ghost use Rattle.piece_table.specs.PieceTable.{hold_of};
 ghost use Rattle.fs_script.specs.Fits.{body_of};
-ghost use Rattle.md5.specs.Md5.{md5};
-ghost use Rattle.core_machine.specs.Extents.{IsFileOf, bytes_of_extents};
-ghost use Rattle.core_machine.specs.Follows.{Follows};
-ghost use Rattle.core_machine.specs.Kept.{AreSound};
+ghost use Rattle.fs_script.specs.Job.{Job};
+ghost use Rattle.fs_script.specs.declared.line.Op.{Op};
+ghost use Rattle.core_machine.specs.Events.Read.{shows};
+ghost use Rattle.core_machine.specs.FileSpans.{IsFile};
+ghost use Rattle.core_machine.specs.Follows.{EventFollows, IsWhole, ReadSound};
+ghost use Rattle.core_machine.specs.Kept.{later_of};
+ghost use Rattle.core_machine.specs.Logs.{AreHeldSlots, AreInMemory, AreInOneSlot, HoldsStand, slot_in};
+ghost use Rattle.core_machine.specs.Pins.{HaveSlots, no_count, pin_count};
+ghost use Rattle.core_machine.specs.Reads.{BeginsRead};
+ghost use Rattle.core_machine.specs.Settling.{Settles};
+ghost use Rattle.core_machine.specs.Task.{IsReadTask, PinsRuns, reading_of};
 
-use crate::extent::read_extents;
-use crate::file_extents::FileExtents;
+use crate::digest::digest;
+use crate::fetching::fetch_run;
+use crate::file_spans::FileSpans;
 use crate::path_state::{ClientPath, OwnedPath};
-use fs_script::{Op, Script};
-use fs_types::{Answer, Body, Digest16, HEX_LIMIT, ShortBytes, Want};
-use md5::{Digest, Md5};
+use crate::pins::{let_go, pin_runs};
+use crate::task::{ReadTask, Task};
+use fs_dev::SpillDev;
+use fs_script::Op;
+use fs_types::{Answer, Body, HEX_LIMIT, ShortBytes, Version, Want};
+use slot_plain::PlainLog;
 use std::alloc::Global;
-
-/// The MD5 digest of some bytes (RFC 1321).
-pub fn digest(bytes: &[u8]) -> Digest16
-    ensures { result ≡ md5 bytes.now }
-{
-    Digest16(Md5::digest(bytes))
-}
 
 fn body(bytes: &[u8]) -> Body
     ensures { result ≡ body_of bytes.now }
@@ -33,49 +38,123 @@ fn body(bytes: &[u8]) -> Body
     }
 }
 
-/// The bytes of a file from `off` on, at most `len` of them and none past its end.
-pub fn shown_bytes(
+// Looks up what a range of a file shows, and pins the pieces of that.
+fn begin<D: SpillDev + Drop>(
     alloc: Global,
-    s: &Script,
-    file: &FileExtents,
+    file: &FileSpans,
+    version: Version,
     off: u64,
     len: u64,
-) -> Result<Vec<u8>, Want>
-    requires { IsFileOf s.now file.now }
-    ensures { IfOk result (λ v. v.items
-        ≡ shown (bytes_of_extents s.now file.now.extents.items) off len) }
+    logs: &mut [PlainLog<D>],
+) -> Result<ReadTask, Want>
+    requires file { IsFile file.now }
+    requires slots { HaveSlots logs.old (hold_of file.now.held.pieces) }
+    requires once { AreInOneSlot logs.old }
+    requires held { AreHeldSlots logs.old }
+    requires few { (r i : ℕ) → (slot_in logs.old r i).count < 2 ^ 64 - 1 }
+    ensures { (s : Job) → IfOk result (λ t.
+        BeginsRead s file.now version off len t logs.old logs.new) }
 {
-    let off = off.min(file.len);
-    read_extents(alloc, s, &file.extents, off, len.min(file.len - off))
+    let runs = file.runs(alloc, off, len)?;
+    let bytes = vec![in alloc; 0; file.shown_len(off, len) as usize]?;
+    let pins = pin_runs(alloc, file, &runs, logs)?;
+    Ok(ReadTask {
+        version,
+        runs,
+        pins,
+        fetched: 0,
+        bytes,
+    })
 }
 
-/// Answers a read of at most `len` bytes from `off` on.
-pub fn read(
+// Fetches one run more.
+fn fetch_next<D: SpillDev + Drop>(t: &mut ReadTask, logs: &mut [PlainLog<D>])
+    requires task { (s : Job) × IsReadTask s t.old × HoldsStand s logs.old (hold_of t.old.pins)
+        × AreInMemory s logs.old }
+    requires left { t.old.fetched < length t.old.runs.items }
+    ensures reading { reading_of t.new
+        ≡ record (reading_of t.old) { fetched = t.old.fetched + 1 } }
+    ensures task { (s : Job) → IsReadTask s t.old → HoldsStand s logs.old (hold_of t.old.pins)
+        → IsReadTask s t.new }
+    ensures pins { t.new.pins ≡ t.old.pins }
+    ensures logs { logs.new ≡ logs.old }
+{
+    let run = t.runs[t.fetched];
+    let Some(hold) = t.pins.hold(run.piece) else {
+        unreachable!()
+    };
+    fetch_run(logs, hold, &run, &mut t.bytes);
+    t.fetched += 1;
+}
+
+// Lets go of all that is pinned, and shows the bytes.
+fn finish<D: SpillDev + Drop>(
+    t: &mut ReadTask,
+    own: &mut ClientPath,
+    logs: &mut [PlainLog<D>],
+) -> Answer
+    requires pinned { PinsRuns t.old.runs.items t.old.pins }
+    requires slots { HaveSlots logs.old (hold_of t.old.pins) }
+    requires once { AreInOneSlot logs.old }
+    requires held { AreHeldSlots logs.old }
+    ensures answer { result ≡ shows t.old.version t.old.bytes.items }
+    ensures noted { own.new ≡ record own.old {
+      noted = later_of (record { version = t.old.version; exists = true }) own.old.noted;
+    } }
+    ensures slots { Settles (pin_count t.old.pins) no_count logs.old logs.new }
+{
+    let_go(&t.runs, &mut t.pins, logs);
+    own.note(t.version, true);
+    Answer::Shown {
+        v: t.version,
+        n: t.bytes.len() as u64,
+        body: body(&t.bytes),
+    }
+}
+
+/// One event of a read of at most `len` bytes from `off` on. No answer means that the line goes on.
+/// After want of memory all that is kept is open.
+pub fn read<D: SpillDev + Drop>(
     alloc: Global,
-    s: &Script,
     off: u64,
     len: u64,
     path: &OwnedPath,
     own: &mut ClientPath,
-) -> Result<Answer, Want>
-    requires { AreSound s.now path.now own.old }
-    ensures follows { IfOk result (λ a. (n : ℕ)
-        → Follows s.now n (Op.Read off len) path.now own.old path.now own.new a) }
-    ensures sound { OnOk result (AreSound s.now path.now own.new) }
+    task: &mut Task,
+    logs: &mut [PlainLog<D>],
+) -> Result<Option<Answer>, Want>
+    requires sound { (s : Job) × ReadSound s (Op.Read off len)
+        (record { owned = path.now; client = own.old; task = task.old; logs = logs.old }) }
+    requires once { AreInOneSlot logs.old }
+    requires held { AreHeldSlots logs.old }
+    requires few { (q i : ℕ) → (slot_in logs.old q i).count < 2 ^ 64 - 1 }
+    ensures follows { (s : Job) (n r : ℕ) → ReadSound s (Op.Read off len)
+        (record { owned = path.now; client = own.old; task = task.old; logs = logs.old })
+        → IfOk result (λ a. EventFollows s n (Op.Read off len) r
+        (record { owned = path.now; client = own.old; task = task.old; logs = logs.old })
+        (record { owned = path.now; client = own.new; task = task.new; logs = logs.new }) a) }
+    ensures whole { (s : Job) → ReadSound s (Op.Read off len)
+        (record { owned = path.now; client = own.old; task = task.old; logs = logs.old })
+        → OnOk result (IsWhole s (Op.Read off len)
+        (record { owned = path.now; client = own.new; task = task.new; logs = logs.new })) }
 {
+    if let Task::Read(t) = task {
+        if t.fetched < t.runs.len() {
+            fetch_next(t, logs);
+            return Ok(None);
+        }
+        let answer = finish(t, own, logs);
+        *task = Task::Idle;
+        return Ok(Some(answer));
+    }
     if !own.is_open {
-        return Ok(Answer::BadF);
+        return Ok(Some(Answer::BadF));
     }
     let v = path.version();
     let Some(file) = &path.file else {
         own.note(v, false);
-        return Ok(Answer::NoEnt { v });
+        return Ok(Some(Answer::NoEnt { v }));
     };
-    let bytes = shown_bytes(alloc, s, file, off, len)?;
-    own.note(v, true);
-    Ok(Answer::Shown {
-        v,
-        n: bytes.len() as u64,
-        body: body(&bytes),
-    })
+    *task = Task::Read(begin(alloc, file, v, off, len, logs)?);
+    Ok(None)
 }

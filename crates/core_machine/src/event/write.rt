@@ -1,49 +1,45 @@
 //! A write: bytes into the client's own log, which become pending.
 
-ghost use Rattle.std.specs.Prelude.{◌≡◌, ◌+◌, ◌^◌, ◌<◌, ◌≤◌, ◌==◌, [], ◌∷◌, ◌++◌, Some, length, IfOk, OnOk, if◌then◌else◌};
-ghost use Rattle.fs_script.specs.Job.{Job};
+ghost use Rattle.std.specs.Prelude.{◌≡◌, ◌+◌, ◌^◌, ◌<◌, ◌≤◌, Some, length, IfOk, OnOk};
+ghost use Rattle.fs_script.specs.AnswerKinds.{is_accepted};
 ghost use Rattle.fs_script.specs.Payload.{data_bytes, write_at};
-ghost use Rattle.core_machine.specs.Extents.{IsExtent};
-ghost use Rattle.core_machine.specs.Follows.{Follows};
-ghost use Rattle.core_machine.specs.Kept.{AreSound, pending_lines};
+ghost use Rattle.core_machine.specs.Follows.{Ends, EventSound, Follows};
+ghost use Rattle.core_machine.specs.Follows.{LogsSettle, free_in, kept_event};
+ghost use Rattle.core_machine.specs.Kept.{AreSound};
 
-use crate::extent::Extent;
+use crate::logs::{fill_line, release_all};
 use crate::path_state::{ClientPath, OwnedPath};
+use crate::task::Task;
+use fs_dev::SpillDev;
 use fs_script::{Data, Op, Script};
-use fs_types::{Answer, LONGEST_FILE, LineNo, Want};
+use fs_types::{Answer, LONGEST_FILE, LineNo, Rank, Want};
+use slot_plain::{PlainLog, TakeNo};
+use std::alloc::Global;
 
-// Makes a write pending, where it brings bytes.
-fn make_pending(n: LineNo, off: u64, len: u64, own: &mut ClientPath) -> Result<(), Want>
-    ensures pending { OnOk result (pending_lines own.new
-        ≡ (if len == 0 then pending_lines own.old else pending_lines own.old ++ n ∷ [])) }
-    ensures rest { OnOk result (own.new ≡ record own.old { pending = own.new.pending }) }
-    ensures sound { OnOk result ((s : Job) (path : OwnedPath) → (0 < len
-        → IsExtent s (record { at = off; len = len; line = n })) → AreSound s path own.old
-        → AreSound s path own.new) }
-{
-    if len > 0 {
-        own.pending.push(Extent {
-            at: off,
-            len,
-            line: n,
-        })?;
-    }
-    Ok(())
-}
-
-/// Answers a write of `text` at `off`, line `n`.
-pub fn write(
+/// Answers a write of `text` at `off`, line `n` of client `r`. After want of memory all that is
+/// kept is open.
+pub fn write<D: SpillDev + Drop>(
+    alloc: Global,
     s: &Script,
     n: LineNo,
     off: u64,
     text: &Data,
+    r: Rank,
     path: &OwnedPath,
     own: &mut ClientPath,
+    logs: &mut [PlainLog<D>],
 ) -> Result<Answer, Want>
     requires line { write_at s.now n ≡ Some (record { at = off; bytes = data_bytes text.now }) }
-    requires sound { AreSound s.now path.now own.old }
-    ensures follows { IfOk result (λ a. Follows s.now n
-        (Op.Write off text.now) path.now own.old path.now own.new a) }
+    requires sound { EventSound s.now n (Op.Write off text.now) r
+        (record { owned = path.now; client = own.old; task = Task.Idle; logs = logs.old }) }
+    ensures ends { IfOk result (λ a. Ends (kept_event s.now path.now own.old
+        (free_in logs.old r) Task.Idle (Op.Write off text.now)) (is_accepted a) a) }
+    ensures follows { IfOk result (λ a. Follows s.now n (Op.Write off text.now) Task.Idle
+        (kept_event s.now path.now own.old (free_in logs.old r) Task.Idle (Op.Write off text.now))
+        path.now own.old path.now own.new a) }
+    ensures logs { IfOk result (λ a. LogsSettle s.now n r (is_accepted a)
+        (record { owned = path.now; client = own.old; task = Task.Idle; logs = logs.old })
+        (record { owned = path.now; client = own.new; task = Task.Idle; logs = logs.new })) }
     ensures sound { OnOk result (AreSound s.now path.now own.new) }
 {
     if !own.is_open {
@@ -59,7 +55,18 @@ pub fn write(
     if len > LONGEST_FILE || off > LONGEST_FILE - len {
         return Ok(Answer::TooBig);
     }
-    make_pending(n, off, len, own)?;
     let slots = len.div_ceil(u64::from(s.shape().chunk)) as u32;
+    let holds = match fill_line(alloc, s, n, len, &mut logs[r.0 as usize]) {
+        Ok(holds) => holds,
+        Err(TakeNo::NoSpace { need, free }) => return Ok(Answer::NoSpace { need, free }),
+        Err(TakeNo::Want) => return Err(Want),
+    };
+    // A write of no bytes leaves nothing pending.
+    if len == 0 {
+        return Ok(Answer::Wrote { slots });
+    }
+    let mut dead = Vec::new(alloc);
+    own.pending.add(s, n, off, len, holds, &mut dead)?;
+    release_all(logs, &dead);
     Ok(Answer::Wrote { slots })
 }

@@ -21,7 +21,7 @@ pub fn commits_keep_jobs_legal()
     ensures { CommitsKeepJobsLegal }
 {}
 
-/// With an answer to each operation, and each file as its journal leaves it.
+/// With an answer to each operation, each file as its journal leaves it, and the slots counted.
 #[tactic(auto, using(crate::proofs::Finished::finished))]
 pub fn finished_jobs_are_legal()
     ensures { FinishedJobsAreLegal }

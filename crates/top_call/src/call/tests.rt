@@ -1,12 +1,14 @@
 mod cases;
 mod many_clients;
+mod many_writes;
 mod refusals;
 
 use self::cases::{
     CASES, FIVE_LINES, FIVE_LINES_REPORT, READ_BESIDE_SYNC, READ_BESIDE_SYNC_REPORTS,
 };
 use self::many_clients::{neighbours_job, neighbours_report};
-use self::refusals::{FOUR_CLIENTS, HEADERS, LINES, SIZES};
+use self::many_writes::{overwriting_job, overwriting_report};
+use self::refusals::{FOUR_CLIENTS, HEADERS, LINES, SHAPES, SIZES, free_slots};
 use super::{top, top_calm};
 use fs_dev::{CalmSource, MemSink, MemSource, NoHost};
 use fs_types::{Status, Want};
@@ -14,7 +16,7 @@ use std::alloc::Global;
 use std::test::Fail;
 
 /// Room for all that a call of the tests writes.
-const ROOM: usize = 16_384;
+const ROOM: usize = 32_768;
 
 // The words of a command line.
 fn command_words(alloc: Global, texts: &[&str]) -> Result<Vec<String>, Want> {
@@ -62,6 +64,10 @@ fn faults_of_a_script_are_named_in_their_order(rt: HostRuntime) -> Result<(), Fa
             assert!(rt; prints(alloc, header, output)?, "header {i}");
         }
     }
+    for (i, (header, clients, slots)) in SHAPES.iter().enumerate() {
+        let output = free_slots(alloc, *clients, *slots)?;
+        assert!(rt; prints(alloc, header, output.as_bytes())?, "shape {i}");
+    }
     for (i, (lines, output)) in LINES.iter().enumerate() {
         let mut script = Vec::from_slice(alloc, FOUR_CLIENTS)?;
         script.extend_from_slice(lines)?;
@@ -95,6 +101,15 @@ fn each_of_many_clients_reads_the_file_of_the_next(rt: HostRuntime) -> Result<()
     let job = neighbours_job(alloc)?;
     let (status, sink) = ended(alloc, &["sim", "5"], job.as_bytes())?;
     assert!(rt; status == Status::Done && sink.bytes() == neighbours_report(alloc)?.as_bytes());
+    Ok(())
+}
+
+#[test]
+fn many_writes_over_one_another_take_few_slots(rt: HostRuntime) -> Result<(), Fail> {
+    let alloc = rt.alloc();
+    let job = overwriting_job(alloc)?;
+    let (status, sink) = ended(alloc, &["sim", "0"], job.as_bytes())?;
+    assert!(rt; status == Status::Done && sink.bytes() == overwriting_report(alloc)?.as_bytes());
     Ok(())
 }
 

@@ -5,7 +5,7 @@ use Rattle.core_machine.proofs.Refines.Ready.{ready-kept}
 use Rattle.core_machine.proofs.run.ready.Goals as goal
 
 pub returns-else-run : goal.returns-else-run
-returns-else-run c =
+returns-else-run g c =
     let r = c.args.run.now in
     c.ready.ensures.ready ∙ sym (ready-kept (c.requires.holds c.if-run.false) c.requires.phases)
-    ∙ ap (λ b. ready (moment_of r.script.now r.paths (states r) r.answers r.turns b)) (sym c.if-run.false)
+    ∙ ap (λ b. ready (moment_of r.script.now r.paths (states r) r.answers r.turns r.tasks.items r.logs.items b)) (sym c.if-run.false)

@@ -1,6 +1,6 @@
 use Rattle.std.proofs.Common.{◌≡◌, ℕ, ◌%◌, length}
 use Rattle.std.specs.Prelude.{max}
-use Rattle.core_machine.specs.Moment.{events_left}
+use Rattle.core_machine.specs.EventsLeft.{events_left}
 use Rattle.core_run.specs.PickedRun.{moment_after}
 use Rattle.core_run.proofs.run.run_to_end.Given as goal
 

@@ -5,6 +5,7 @@ pub returns : goal.returns
 returns c =
     rw (
       c.in_ok-extend_from_slice.ensures.items,
+      c.in_ok-append_slots.ensures,
       c.in_ok-append_paths.ensures,
       c.in_ok-append_answers.ensures,
       c.new-out.ensures.items,

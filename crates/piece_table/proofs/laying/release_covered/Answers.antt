@@ -38,7 +38,13 @@ loop-g-preserved g c =
     let so_far = c.loop-g.invariant in
     let one = c.release_one.ensures in
     record {
-      numbers = λ q. omega (arith, so_far.numbers q, one.numbers q, ap (fragment_count q) next, count-cons q f (covered (end_of f) c.args.end fs));
+      numbers = λ q. omega (
+        arith,
+        so_far.numbers q,
+        one.numbers q,
+        ap (fragment_count q) next,
+        count-cons q f (covered (end_of f) c.args.end fs),
+      );
       thins = Thins-then _ _ _ so_far.thins one.thins;
       out = ComesOut-then g.H.Hold.piece _ _ _ _ _ _ so_far.out one.out (held_before _ _ so_far.thins) (unheld_after _ _ one.thins);
       room = omega (arith, so_far.room, ap length next, one.len, one.one, one.capacity);

@@ -8,5 +8,5 @@ returns-in-Ok g c =
     let reply = c.in-Ok.ensures in
     let wrote = c.write_answer-in-Ok.ensures in
     let seed = only_sim c.in-Some-Sim.field-0 in
-    IsTopCall-sim _ _ _ _ _ _ _ _ _ command (rw seed.1 refl) reply.answer reply.status reply.to_end (search rules)
-    (rw c.deref.ensures.value at wrote.written) wrote.risen wrote.calm
+    IsTopCall-sim _ _ _ _ _ _ _ _ _ _ command (rw seed.1 refl) reply.answer reply.status reply.to_end (search rules)
+    (rw c.deref.ensures.value at wrote.written) wrote.risen wrote.calm reply.host

@@ -30,10 +30,37 @@ L 4 ok v=2
 L 5 ok v=2 n=3 hex=656c6c
 J /unifyfs/a 2 4
 F /unifyfs/a n=5 frozen=0 md5=5d41402abc4b2a76b9719d911017c592
+S 0 held=1 free=3 faults=0
 end
 ";
 
 const NO_OPERATION: &[u8] = b"unifyfs 1 servers=1 clients=1 chunk=64 shmem=4 spill=0\n";
+
+const NO_OPERATION_REPORT: &[u8] = b"S 0 held=0 free=4 faults=0
+end
+";
+
+// A write of no bytes, after which there is nothing to commit.
+const EMPTY_WRITE: &[u8] = b"unifyfs 1 servers=1 clients=1 chunk=64 shmem=4 spill=0
+0 create /unifyfs/a
+0 write /unifyfs/a 0 t:
+0 sync /unifyfs/a
+0 create /unifyfs/a
+0 read /unifyfs/b 0 1
+";
+
+const EMPTY_WRITE_REPORT: &[u8] = b"L 2 ok v=1
+L 3 ok slots=0
+L 4 ok v=1
+L 5 exists v=1
+L 6 badf
+J /unifyfs/a 2
+F /unifyfs/a n=0 frozen=0 md5=d41d8cd98f00b204e9800998ecf8427e
+J /unifyfs/b
+F /unifyfs/b none
+S 0 held=0 free=4 faults=0
+end
+";
 
 // A job with each kind of row that a job has, and a path without a file. The text that it writes is
 // 65 times the letter a, which is one byte more than a slot holds.
@@ -72,6 +99,7 @@ J /unifyfs/a 3 8
 F /unifyfs/a n=65 frozen=0 md5=c743a45e0d2e6a95cb859adae0248435
 J /unifyfs/b
 F /unifyfs/b none
+S 0 held=2 free=2 faults=0
 end
 ";
 
@@ -90,6 +118,7 @@ L 4 ok v=2
 L 5 ok v=2 n=2 hex=007a
 J /unifyfs/a 2 4
 F /unifyfs/a n=1099511627776 frozen=0 md5=2c7ab85a893283e98c931e9511add182
+S 0 held=1 free=3 faults=0
 end
 ";
 
@@ -128,6 +157,8 @@ J /unifyfs/a 3 5
 F /unifyfs/a n=4 frozen=0 md5=60781e9e546435a1d0b9316e7954ead6
 J /unifyfs/b 13 15
 F /unifyfs/b n=4 frozen=0 md5=8d32ca7e67c623e158e98450528fcb91
+S 0 held=1 free=3 faults=0
+S 1 held=1 free=3 faults=0
 end
 ";
 
@@ -144,6 +175,8 @@ L 3 ok v=1
 L 5 ok v=1
 J /unifyfs/a 3
 F /unifyfs/a n=0 frozen=0 md5=d41d8cd98f00b204e9800998ecf8427e
+S 0 held=0 free=4 faults=0
+S 1 held=0 free=4 faults=0
 end
 ";
 
@@ -152,6 +185,8 @@ L 3 ok v=1
 L 5 ok v=1
 J /unifyfs/a 3
 F /unifyfs/a n=0 frozen=0 md5=d41d8cd98f00b204e9800998ecf8427e
+S 0 held=0 free=4 faults=0
+S 1 held=0 free=4 faults=0
 end
 ";
 
@@ -191,6 +226,8 @@ L 15 ok v=4 n=10 frozen=0
 L 16 ok v=4 n=10 hex=61ff1e0000000000006a
 J /unifyfs/a 2 4 6 8
 F /unifyfs/a n=10 frozen=0 md5=02deb94b6a14971799e35c0101afb46d
+S 0 held=3 free=1 faults=0
+S 1 held=0 free=4 faults=0
 end
 ";
 
@@ -215,6 +252,8 @@ L 8 ok v=1 n=0 hex=
 L 10 ok v=2 n=3 hex=6e6577
 J /unifyfs/a 2 7
 F /unifyfs/a n=3 frozen=0 md5=22af645d1859cb5ca6da0c484f1f37ea
+S 0 held=1 free=3 faults=0
+S 1 held=0 free=4 faults=0
 end
 ";
 
@@ -226,6 +265,8 @@ L 8 ok v=2 n=3 hex=6e6577
 L 10 ok v=2 n=3 hex=6e6577
 J /unifyfs/a 2 7
 F /unifyfs/a n=3 frozen=0 md5=22af645d1859cb5ca6da0c484f1f37ea
+S 0 held=1 free=3 faults=0
+S 1 held=0 free=4 faults=0
 end
 ";
 
@@ -251,7 +292,7 @@ pub const READ_BESIDE_SYNC_REPORTS: [&[u8]; 16] = [
 
 const USAGE: &[u8] = b"usage: unifyfs sim SEED | run | check NAME | load N | stage NAME\n";
 
-pub const CASES: [Case; 17] = [
+pub const CASES: [Case; 18] = [
     (SIM, FIVE_LINES, Status::Done, FIVE_LINES_REPORT),
     (
         SIM_BY_THE_LAST_SEED,
@@ -259,6 +300,7 @@ pub const CASES: [Case; 17] = [
         Status::Done,
         FIVE_LINES_REPORT,
     ),
+    (SIM, EMPTY_WRITE, Status::Done, EMPTY_WRITE_REPORT),
     (SIM, EACH_ROW, Status::Done, EACH_ROW_REPORT),
     (SIM, LAST_PLACE, Status::Done, LAST_PLACE_REPORT),
     (SIM, TWO_CLIENTS, Status::Done, TWO_CLIENTS_REPORT),
@@ -281,7 +323,7 @@ pub const CASES: [Case; 17] = [
         Status::Done,
         OPEN_FOR_ANOTHER_REPORT,
     ),
-    (SIM, NO_OPERATION, Status::Done, b"end\n"),
+    (SIM, NO_OPERATION, Status::Done, NO_OPERATION_REPORT),
     (&[], NO_OPERATION, Status::Usage, USAGE),
     (&["sim"], NO_OPERATION, Status::Usage, USAGE),
     (&["sim", "01"], NO_OPERATION, Status::Usage, USAGE),

@@ -58,6 +58,9 @@ pub fn neighbours_report(alloc: Global) -> Result<String, AllocError> {
         write!(report, "J /unifyfs/f{r:02} {create} {}\n", create + 2)?;
         write!(report, "F /unifyfs/f{r:02} n=1 frozen=0 md5={digest}\n")?;
     }
+    for r in 0..CLIENTS {
+        write!(report, "S {r} held=1 free=0 faults=0\n")?;
+    }
     report.push_str("end\n")?;
     Ok(report)
 }

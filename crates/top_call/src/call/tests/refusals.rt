@@ -1,5 +1,7 @@
 //! Scripts that are refused, each with the line that says why, beside neighbours that are accepted.
 
+use std::alloc::{AllocError, Global};
+
 /// What a call prints for a text.
 pub type Printed = (&'static [u8], &'static [u8]);
 
@@ -31,21 +33,46 @@ const NUMBER: &[u8] = b"refused line=2 reason=number\n";
 
 const DATA: &[u8] = b"refused line=2 reason=data\n";
 
-const NO_LINE: &[u8] = b"end\n";
+const NO_LINE: &[u8] = b"S 0 held=0 free=1 faults=0
+S 1 held=0 free=1 faults=0
+S 2 held=0 free=1 faults=0
+S 3 held=0 free=1 faults=0
+end
+";
 
 const CREATED: &[u8] = b"L 2 ok v=1
 J /unifyfs/a 2
 F /unifyfs/a n=0 frozen=0 md5=d41d8cd98f00b204e9800998ecf8427e
+S 0 held=0 free=1 faults=0
+S 1 held=0 free=1 faults=0
+S 2 held=0 free=1 faults=0
+S 3 held=0 free=1 faults=0
 end
 ";
 
-const NO_FILE: &[u8] = b"L 2 noent v=0\nJ /unifyfs/a\nF /unifyfs/a none\nend\n";
+const NO_FILE: &[u8] = b"L 2 noent v=0
+J /unifyfs/a
+F /unifyfs/a none
+S 0 held=0 free=1 faults=0
+S 1 held=0 free=1 faults=0
+S 2 held=0 free=1 faults=0
+S 3 held=0 free=1 faults=0
+end
+";
 
-const CLOSED: &[u8] = b"L 2 badf\nJ /unifyfs/a\nF /unifyfs/a none\nend\n";
+const CLOSED: &[u8] = b"L 2 badf
+J /unifyfs/a
+F /unifyfs/a none
+S 0 held=0 free=1 faults=0
+S 1 held=0 free=1 faults=0
+S 2 held=0 free=1 faults=0
+S 3 held=0 free=1 faults=0
+end
+";
 
 /// First lines, with what a script of each alone is answered. Their form is tried before the limits
 /// of their numbers, and both before a later line.
-pub const HEADERS: [(&[&[u8]], &[u8]); 3] = [
+pub const HEADERS: [(&[&[u8]], &[u8]); 2] = [
     (
         &[
             b"",
@@ -85,18 +112,51 @@ pub const HEADERS: [(&[&[u8]], &[u8]); 3] = [
         ],
         b"refused limit line=1\n",
     ),
+];
+
+/// First lines that are accepted, each with the number of its clients and that of a client's slots.
+pub const SHAPES: [(&[u8], u32, u32); 6] = [
     (
-        &[
-            b"unifyfs 1 servers=1 clients=1 chunk=64 shmem=1 spill=0",
-            b"unifyfs 1 servers=64 clients=64 chunk=64 shmem=1 spill=0\n",
-            b"unifyfs 1 servers=1 clients=1 chunk=72 shmem=1 spill=0",
-            b"unifyfs 1 servers=1 clients=1 chunk=65536 shmem=4096 spill=0",
-            b"unifyfs 1 servers=1 clients=1 chunk=64 shmem=65536 spill=0",
-            b"unifyfs 1 servers=1 clients=2 chunk=64 shmem=32768 spill=0",
-        ],
-        NO_LINE,
+        b"unifyfs 1 servers=1 clients=1 chunk=64 shmem=1 spill=0",
+        1,
+        1,
+    ),
+    (
+        b"unifyfs 1 servers=64 clients=64 chunk=64 shmem=1 spill=0\n",
+        64,
+        1,
+    ),
+    (
+        b"unifyfs 1 servers=1 clients=1 chunk=72 shmem=1 spill=0",
+        1,
+        1,
+    ),
+    (
+        b"unifyfs 1 servers=1 clients=1 chunk=65536 shmem=4096 spill=0",
+        1,
+        4_096,
+    ),
+    (
+        b"unifyfs 1 servers=1 clients=1 chunk=64 shmem=65536 spill=0",
+        1,
+        65_536,
+    ),
+    (
+        b"unifyfs 1 servers=1 clients=2 chunk=64 shmem=32768 spill=0",
+        2,
+        32_768,
     ),
 ];
+
+/// What a job without operations reports: all slots of its clients are free.
+pub fn free_slots(alloc: Global, clients: u32, slots: u32) -> Result<String, AllocError> {
+    let mut report = String::new(alloc);
+    for r in 0..clients {
+        write!(report, "S {r} held=0 free={slots} faults=0\n")?;
+    }
+    report.push_str("end\n")?;
+    Ok(report)
+}
 
 /// Lines that follow the header of four clients. The words of a line are tried from the left: the
 /// client, the operation, how many words there are, and then each of the others. The limit of the

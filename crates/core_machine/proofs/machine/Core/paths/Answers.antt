@@ -8,7 +8,7 @@ use Rattle.core_machine.proofs.Refines.StatesOfPaths.{states-size}
 use Rattle.core_machine.proofs.machine.Core.paths.Goals as goal
 
 pub returns : goal.returns
-returns c =
+returns g c =
     let r = c.self.inside.run in
     let kept = c.self.invariant.kept in
     sym (paths-beside r.paths (states r) (states-size (owned_at r.owners.items) r.paths r.clients.items

@@ -7,7 +7,12 @@ use Rattle.piece_table.proofs.held_spans.HeldSpans.put_all.Goals as goal
 
 pub overflow_mul-count : goal.overflow_mul-count
 overflow_mul-count g c =
-    omega (arith, c.count_covered-count.ensures, few_covered 0 LONGEST_FILE (g.S.Spans.fragments c.over.inside.spans) (g.met.S.Spans.are_spans c.over.inside.spans))
+    omega (
+      arith,
+      c.count_covered-count.ensures,
+      few_covered 0 LONGEST_FILE (g.S.Spans.fragments c.over.inside.spans)
+          (g.met.S.Spans.are_spans c.over.inside.spans),
+    )
 
 pub append-requires : goal.append-requires
 append-requires g c = rw (← c.self.view_is, ← c.over.view_is) at c.requires
@@ -25,7 +30,8 @@ pub invariant_of-self-2 : goal.invariant_of-self-2
 invariant_of-self-2 g c =
     IsKept-put_all g.H.Hold.is_ready g.H.Hold.piece g.H.Hold.bytes
     (kept (g.S.Spans.fragments c.self.inside.spans) c.self.inside.pieces)
-    (kept (g.S.Spans.fragments c.over.inside.spans) c.over.inside.pieces) c.self.invariant c.over.invariant (rw (← c.self.view_is, ← c.over.view_is) at c.requires)
+    (kept (g.S.Spans.fragments c.over.inside.spans) c.over.inside.pieces) c.self.invariant c.over.invariant
+    (rw (← c.self.view_is, ← c.over.view_is) at c.requires)
     c.append.new.self c.in_ok-append.ensures.numbers c.in_ok-append.ensures.holds c.in_ok-append.ensures.counted
     c.lay_all.new.pieces (g.S.Spans.fragments c.lay_all.new.spans)
     (c.lay_all.ensures.fragments ∙ ap (put_fragments (g.S.Spans.fragments c.over.inside.spans)) c.in_ok-reserve.ensures.same)
@@ -39,7 +45,8 @@ returns-clause-put g c =
     rw (← c.self.view_is, ← c.over.view_is)
     (PutsAll-laid g.H.Hold.is_ready g.H.Hold.piece g.H.Hold.bytes
     (kept (g.S.Spans.fragments c.self.inside.spans) c.self.inside.pieces)
-    (kept (g.S.Spans.fragments c.over.inside.spans) c.over.inside.pieces) c.self.invariant c.over.invariant (rw (← c.self.view_is, ← c.over.view_is) at c.requires)
+    (kept (g.S.Spans.fragments c.over.inside.spans) c.over.inside.pieces) c.self.invariant c.over.invariant
+    (rw (← c.self.view_is, ← c.over.view_is) at c.requires)
     c.append.new.self c.in_ok-append.ensures.numbers c.in_ok-append.ensures.holds c.in_ok-append.ensures.counted
     c.lay_all.new.pieces (g.S.Spans.fragments c.lay_all.new.spans)
     (c.lay_all.ensures.fragments ∙ ap (put_fragments (g.S.Spans.fragments c.over.inside.spans)) c.in_ok-reserve.ensures.same)
@@ -50,7 +57,8 @@ returns-clause-dead g c =
     rw (← c.self.view_is, ← c.in_ok-reserve-2.ensures.items)
     (HandsOver-put_all g.H.Hold.is_ready g.H.Hold.piece g.H.Hold.bytes
     (kept (g.S.Spans.fragments c.self.inside.spans) c.self.inside.pieces)
-    (kept (g.S.Spans.fragments c.over.inside.spans) c.over.inside.pieces) c.self.invariant c.over.invariant (rw (← c.self.view_is, ← c.over.view_is) at c.requires)
+    (kept (g.S.Spans.fragments c.over.inside.spans) c.over.inside.pieces) c.self.invariant c.over.invariant
+    (rw (← c.self.view_is, ← c.over.view_is) at c.requires)
     c.append.new.self c.in_ok-append.ensures.numbers c.in_ok-append.ensures.holds c.in_ok-append.ensures.counted
     c.lay_all.new.pieces (g.S.Spans.fragments c.lay_all.new.spans)
     (c.lay_all.ensures.fragments ∙ ap (put_fragments (g.S.Spans.fragments c.over.inside.spans)) c.in_ok-reserve.ensures.same)

@@ -28,9 +28,9 @@ returns-in-Ok-clause-holds g c q =
 pub returns-in-Ok-clause-len : goal.returns-in-Ok-clause-len
 returns-in-Ok-clause-len g c =
     let none = unheld _ (rw (← c.self.view_is, ← c.piece-piece.ensures) at c.requires.new_piece) in
-    c.in-Ok.ensures.len
-    ∙ ap (λ o. length c.self.inside.pieces.entries + (if is_some o then 0 else 1)) (c.in-Ok.ensures.old ∙ none)
-    ∙ ap (λ (t : _). length t.entries + 1) c.self.view_is
+    rw (← c.self.view_is)
+    (c.in-Ok.ensures.len
+    ∙ ap (λ o. length c.self.inside.pieces.entries + (if is_some o then 0 else 1)) (c.in-Ok.ensures.old ∙ none))
 
 pub returns-in-Ok-clause-counted : goal.returns-in-Ok-clause-counted
 returns-in-Ok-clause-counted g c = invariant_of-self g c

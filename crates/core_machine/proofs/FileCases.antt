@@ -1,0 +1,50 @@
+-- The definitions of files as fragments, of their runs and of a line's parts at single values.
+use Rattle.fs_types.proofs.Common.{◌≡◌, ℕ, [], ◌∷◌, Some, None, refl}
+use Rattle.fs_script.proofs.CallerLemmas.{five_lines}
+use Rattle.fs_script.specs.Vocabulary.{Fragment, Piece, runs, shown}
+use Rattle.piece_table.specs.HeldSpans.{kept}
+use Rattle.core_machine.specs.FileSpans.{marks_of_file}
+use Rattle.core_machine.specs.PendingWrites.{parts_end}
+use Rattle.core_machine.specs.ReadRuns.{with_last}
+use Rattle.core_machine.specs.declared.file_spans.FileSpans.{FileSpans}
+
+abbrev piece : ℕ → Piece
+piece line = record { line = line; part = 0 }
+
+abbrev frag : ℕ → ℕ → ℕ → ℕ → Fragment
+frag at len line from = record { at = at; len = len; piece = piece line; from = from }
+
+-- 2 bytes of line 3, 1 byte of line 5 behind a gap, and a zero at the end
+abbrev file : FileSpans
+file = record { held = kept (frag 0 2 3 4 ∷ frag 3 1 5 0 ∷ []) (record { entries = []; spare = 0 }); len = 5 }
+
+marks_of_each_place : marks_of_file file
+    ≡ Some (record { line = 3; part = 0; place = 4 }) ∷ Some (record { line = 3; part = 0; place = 5 }) ∷ None
+    ∷ Some (record { line = 5; part = 0; place = 0 }) ∷ None ∷ []
+marks_of_each_place = refl
+
+-- a read from place 1 on fetches the second byte of the first fragment, and the other one
+runs_from_the_middle : runs (shown (marks_of_file file) 1 9) ≡ frag 0 1 3 5 ∷ frag 2 1 5 0 ∷ []
+runs_from_the_middle = refl
+
+no_runs_past_the_end : runs (shown (marks_of_file file) 5 9) ≡ []
+no_runs_past_the_end = refl
+
+goes_on_in_the_next : with_last (frag 0 2 3 4 ∷ []) (frag 2 3 3 6) ≡ frag 0 5 3 4 ∷ []
+goes_on_in_the_next = refl
+
+stops_at_another_byte : with_last (frag 0 2 3 4 ∷ []) (frag 2 3 3 7) ≡ frag 0 2 3 4 ∷ frag 2 3 3 7 ∷ []
+stops_at_another_byte = refl
+
+stops_at_another_piece : with_last (frag 0 2 3 4 ∷ []) (frag 2 3 5 6) ≡ frag 0 2 3 4 ∷ frag 2 3 5 6 ∷ []
+stops_at_another_piece = refl
+
+stops_at_a_gap : with_last (frag 0 2 3 4 ∷ []) (frag 3 3 3 6) ≡ frag 0 2 3 4 ∷ frag 3 3 3 6 ∷ []
+stops_at_a_gap = refl
+
+-- line 3 writes 5 bytes at place 0, in one part
+no_parts_end : parts_end five_lines 3 0 ≡ 0
+no_parts_end = refl
+
+one_part_ends : parts_end five_lines 3 1 ≡ 5
+one_part_ends = refl

@@ -1,0 +1,206 @@
+-- The events of a read, as the machine has them over what is kept.
+use Rattle.fs_types.proofs.Common.{◌≡◌, ℕ, ◌+◌, ◌<◌, ◌≤◌, ◌∙◌, List, Option, Some, None, true, false, arith, sym, ap, refl, subst, max}
+use Rattle.fs_types.proofs.Common.{if◌then◌else◌, length, is_some, cond_both, cond-true, cond-false}
+use Rattle.fs_types.proofs.Common.{lt-ltb, le-ltb, nat_le, nat_lt, nat_tests, or_left, none-some}
+use Rattle.piece_table.specs.PieceTable.{Pieces, hold_of}
+use Rattle.std.proofs.lemmas.List.{take_all}
+use Rattle.fs_types.specs.Pieces.{Fragment}
+use Rattle.slot_plain.specs.Log.{Log}
+use Rattle.fs_script.specs.Vocabulary.{Answer, Job, Piece, at_least, runs, version_of}
+use Rattle.fs_script.specs.declared.line.Op.TheVariants as ops
+use Rattle.fs_types.specs.declared.answer.Answer.TheVariants as answers
+use Rattle.core_machine.specs.declared.file_spans.FileSpans.{FileSpans}
+use Rattle.core_machine.specs.declared.noted.Noted.{Noted}
+use Rattle.core_machine.specs.declared.path_state.ClientPath.{ClientPath}
+use Rattle.core_machine.specs.declared.path_state.OwnedPath.{OwnedPath}
+use Rattle.core_machine.specs.declared.plain_hold.PlainHold.{PlainHold}
+use Rattle.core_machine.specs.declared.task.ReadTask.{ReadTask}
+use Rattle.core_machine.specs.declared.task.Task.{Task}
+use Rattle.core_machine.specs.declared.task.Task.TheVariants.{Idle, Read}
+use Rattle.core_machine.specs.Doing.{Reading, reading}
+use Rattle.core_machine.specs.Event.{Event, Known, answered, goes_on_reading}
+use Rattle.core_machine.specs.Events.Read.{lookup_over, shows}
+use Rattle.core_machine.specs.Fetching.{HasBytes}
+use Rattle.core_machine.specs.Follows.{EventFollows, EventKept, Follows, Knows, KnowsLookedUp, KeptStand, LookedUpWithin, free_in, kept_event}
+use Rattle.core_machine.specs.HoldsKept.{holds_kept, keeps}
+use Rattle.core_machine.specs.Kept.{file_hold, file_marks, kept_now, known_from, later_of}
+use Rattle.core_machine.specs.Logs.{AreHeldSlots, HoldsStand, stored_part}
+use Rattle.core_machine.specs.Pins.{HaveSlots, no_count, pin_count}
+use Rattle.core_machine.specs.Reads.{BeginsRead}
+use Rattle.core_machine.specs.Settling.{Settles}
+use Rattle.core_machine.specs.Task.{IsReadTask, doing_of, marks_of_task, reading_of}
+use Rattle.core_machine.proofs.FetchedBytes.{HasBytes-whole}
+use Rattle.core_machine.proofs.SettledSlots.{Settles-agree, Settles-more, Settles-same}
+
+-- ---- what is noted
+
+-- what is noted of an answer's version is the later of both, and says what is so of it
+pub record Notes (x : OwnedPath) (k : ClientPath) (t : Task) (a : Answer) (m : Noted) : Type 0 where
+  pub version : m.version ≡ at_least k.noted.version (version_of a)
+  pub within : k.noted.version ≤ length x.journal.items → x.board.version ≤ length x.journal.items
+      → LookedUpWithin t (length x.journal.items) → m.version ≤ length x.journal.items
+  pub known : (at : ℕ → Known) → Knows at x k → KnowsLookedUp at t → known_from m ≡ at m.version
+
+later-version : (a b : Noted) → (later_of a b).version ≡ max b.version a.version
+later-version a b = grind (arith, nat_tests)
+
+module _ (x : OwnedPath) (k : ClientPath) where
+  pub Notes-closed : Notes x k Idle answers.BadF k.noted
+  Notes-closed = record { version = refl; within = λ noted board looked_up. noted; known = λ at knows looked_up. knows.noted }
+
+  -- the version now, at which there is no file
+  pub Notes-absent : x.file ≡ None → Notes x k Idle (answers.NoEnt (length x.journal.items))
+      (later_of (record { version = length x.journal.items; exists = false }) k.noted)
+  Notes-absent absent = let now : Noted = record { version = length x.journal.items; exists = false } in record {
+    version = later-version now k.noted;
+    within = λ noted board looked_up. cond_both (nat_le k.noted.version now.version) now k.noted (λ m. m.version ≤ length x.journal.items)
+        (λ _. omega arith) (λ _. noted);
+    known = λ at knows looked_up. cond_both (nat_le k.noted.version now.version) now k.noted (λ m. known_from m ≡ at m.version)
+        (λ _. rw absent at knows.now) (λ _. knows.noted);
+  }
+
+  -- the version that a read looked up
+  pub Notes-shown : (t : ReadTask) (bytes : List ℕ) → Notes x k (Read t) (shows t.version bytes)
+      (later_of (record { version = t.version; exists = true }) k.noted)
+  Notes-shown t bytes = let seen : Noted = record { version = t.version; exists = true } in record {
+    version = later-version seen k.noted;
+    within = λ noted board looked_up. cond_both (nat_le k.noted.version seen.version) seen k.noted (λ m. m.version ≤ length x.journal.items)
+        (λ _. looked_up) (λ _. noted);
+    known = λ at knows looked_up. cond_both (nat_le k.noted.version seen.version) seen k.noted (λ m. known_from m ≡ at m.version)
+        (λ _. looked_up) (λ _. knows.noted);
+  }
+
+-- ---- an event of a read, by what the machine's event is
+
+-- what is kept, with other logs and another task
+abbrev pub kept : OwnedPath → ClientPath → Task → List Log → EventKept
+kept x k t logs = record { owned = x; client = k; task = t; logs = logs }
+
+module _ (s : Job) (n r off len : ℕ) (x : OwnedPath) (k : ClientPath) (t : Task) (old new : List Log) where
+  -- the line ends with an answer
+  pub ends : (a : Answer) (m : Noted) → kept_event s x k (free_in old r) t (ops.Read off len) ≡ answered a → Notes x k t a m
+      → Settles (holds_kept x k t) (holds_kept x k Idle) old new → KeptStand s old x k t
+      → EventFollows s n (ops.Read off len) r (kept x k t old) (kept x (record k { noted = m }) Idle new) (Some a)
+  ends a m is notes settles stand =
+      let event : Event = kept_event s x k (free_in old r) t (ops.Read off len) in
+      let l : ClientPath = record k { noted = m } in
+      let follows : Follows s n (ops.Read off len) t (answered a) x k x l a = record {
+        journal = refl;
+        marks = refl;
+        board = refl;
+        opened = refl;
+        pending = refl;
+        version = notes.version;
+        within = notes.within;
+        known = λ at knows looked_up. notes.known at (record { noted = knows.noted; board = knows.board; now = knows.now }) looked_up;
+        owned = λ q there. or_left (is_some (file_hold x.file q)) _ there;
+        pieces = λ q there. or_left _ false there;
+      } in
+      record {
+        event = event;
+        is = refl;
+        answer = ap (λ (e : Event). e.answer) is;
+        doing = ap (λ (e : Event). e.doing) is;
+        kept = subst (λ (e : Event). Follows s n (ops.Read off len) t e x k x l a) (sym is) follows;
+        settles = record {
+          logs = record { filled = old; fill = rw (ap (λ (e : Event). e.fills) is) refl; settles = rw (ap (λ (e : Event). e.fills) is) settles };
+          stand = record { files = stand.files; pending = stand.pending; pins = λ q h none. absurd (none-some h none) };
+        };
+      }
+
+  -- the line goes on
+  pub goes_on : (d : Reading) (t' : Task) → kept_event s x k (free_in old r) t (ops.Read off len) ≡ goes_on_reading d
+      → reading d ≡ doing_of t' → Settles (holds_kept x k t) (holds_kept x k t') old new → KeptStand s old x k t'
+      → EventFollows s n (ops.Read off len) r (kept x k t old) (kept x k t' new) None
+  goes_on d t' is doing settles stand =
+      record {
+        event = kept_event s x k (free_in old r) t (ops.Read off len);
+        is = refl;
+        answer = ap (λ (e : Event). e.answer) is;
+        doing = ap (λ (e : Event). e.doing) is ∙ doing;
+        kept = record {
+          commits = ap (λ (e : Event). e.commits) is;
+          fills = ap (λ (e : Event). e.fills) is;
+          owned = refl;
+          client = refl;
+        };
+        settles = record {
+          logs = record { filled = old; fill = rw (ap (λ (e : Event). e.fills) is) refl; settles = rw (ap (λ (e : Event). e.fills) is) settles };
+          stand = stand;
+        };
+      }
+
+-- ---- the events
+
+module _ (s : Job) (n r off len : ℕ) (x : OwnedPath) (k : ClientPath) (old new : List Log) where
+  -- the path isn't open
+  pub EventFollows-closed : k.is_open ≡ false → AreHeldSlots old → KeptStand s old x k Idle
+      → EventFollows s n (ops.Read off len) r (kept x k Idle old) (kept x k Idle old) (Some answers.BadF)
+  EventFollows-closed closed held stand =
+      ends s n r off len x k Idle old old answers.BadF k.noted (cond-false k.is_open _ _ closed) (Notes-closed x k)
+      (Settles-same (holds_kept x k Idle) old held) stand
+
+  -- there is no file
+  pub EventFollows-absent : k.is_open ≡ true → x.file ≡ None → AreHeldSlots old → KeptStand s old x k Idle
+      → EventFollows s n (ops.Read off len) r (kept x k Idle old)
+      (kept x (record k { noted = later_of (record { version = length x.journal.items; exists = false }) k.noted }) Idle old)
+      (Some (answers.NoEnt (length x.journal.items)))
+  EventFollows-absent is_open absent held stand =
+      ends s n r off len x k Idle old old (answers.NoEnt (length x.journal.items)) _
+      (cond-true k.is_open _ _ is_open
+      ∙ ap (λ (f : Option FileSpans). lookup_over (kept_now s x k (free_in old r)) (file_marks f) (record { off = off; len = len })) absent)
+      (Notes-absent x k absent) (Settles-same (holds_kept x k Idle) old held) stand
+
+  -- a read begins
+  pub EventFollows-begun : (f : FileSpans) (t : ReadTask) → k.is_open ≡ true → x.file ≡ Some f → KeptStand s old x k Idle
+      → BeginsRead s f (length x.journal.items) off len t old new
+      → EventFollows s n (ops.Read off len) r (kept x k Idle old) (kept x k (Read t) new) None
+  EventFollows-begun f t is_open there stand begins =
+      goes_on s n r off len x k Idle old new _ (Read t)
+      (cond-true k.is_open _ _ is_open
+      ∙ ap (λ (g : Option FileSpans). lookup_over (kept_now s x k (free_in old r)) (file_marks g) (record { off = off; len = len })) there)
+      (ap reading (sym begins.reading))
+      (Settles-more (λ q. if keeps x k q then 1 else 0) no_count (pin_count t.pins) old new begins.slots)
+      (record {
+        files = stand.files;
+        pending = stand.pending;
+        pins = λ q h is. stand.files q h (ap (λ (g : Option FileSpans). file_hold g q) there ∙ begins.holds q h is);
+      })
+
+  module _ (t : ReadTask) (task : IsReadTask s t) (stand : KeptStand s old x k (Read t)) where
+    -- one run more is fetched
+    pub EventFollows-fetched : (t' : ReadTask) → t.fetched < length t.runs.items
+        → reading_of t' ≡ record (reading_of t) { fetched = t.fetched + 1 } → t'.pins ≡ t.pins → AreHeldSlots old
+        → EventFollows s n (ops.Read off len) r (kept x k (Read t) old) (kept x k (Read t') old) None
+    EventFollows-fetched t' left is pins held =
+        goes_on s n r off len x k (Read t) old old _ (Read t')
+        (cond-true (nat_lt t.fetched (length (runs (marks_of_task t)))) _ _ (rw task.runs_are (lt-ltb t.fetched (length t.runs.items) left)))
+        (ap reading (sym is))
+        (Settles-agree (holds_kept x k (Read t)) (holds_kept x k (Read t)) (holds_kept x k (Read t)) (holds_kept x k (Read t')) old old
+        (λ q. refl) (λ q. ap (λ (p : Pieces PlainHold). (if keeps x k q then 1 else 0) + pin_count p q) pins)
+        (Settles-same (holds_kept x k (Read t)) old held))
+        (record {
+          files = stand.files;
+          pending = stand.pending;
+          pins = λ q h there. stand.pins q h (ap (λ (p : Pieces PlainHold). hold_of p q) (sym pins) ∙ there);
+        })
+
+    -- all runs were fetched, and the bytes are shown
+    pub EventFollows-shown : length t.runs.items ≤ t.fetched → Settles (pin_count t.pins) no_count old new
+        → EventFollows s n (ops.Read off len) r (kept x k (Read t) old)
+        (kept x (record k { noted = later_of (record { version = t.version; exists = true }) k.noted }) Idle new)
+        (Some (shows t.version t.bytes.items))
+    EventFollows-shown all settles =
+        ends s n r off len x k (Read t) old new (shows t.version t.bytes.items) _
+        (cond-false (nat_lt t.fetched (length (runs (marks_of_task t)))) _ _ (rw task.runs_are (le-ltb t.fetched (length t.runs.items) all))
+        ∙ ap (λ (bytes : List ℕ). answered (shows t.version bytes))
+        (sym (HasBytes-whole s t.runs.items t.bytes.items (subst (λ (fs : List Fragment). HasBytes s fs t.bytes.items)
+        (take_all t.fetched t.runs.items all) task.bytes))))
+        (Notes-shown x k t t.bytes.items)
+        (Settles-more (λ q. if keeps x k q then 1 else 0) (pin_count t.pins) no_count old new settles) stand
+
+-- the slots that holds which stand are of
+pub HaveSlots-stand : (s : Job) (logs : List Log) (hold_at : Piece → Option PlainHold) → HoldsStand s logs hold_at → HaveSlots logs hold_at
+HaveSlots-stand s logs hold_at stand q h is =
+    let one = stand q h is in
+    record { held = one.1.count; stored = stored_part s h.piece; piece = one.1.piece; id = one.0 }

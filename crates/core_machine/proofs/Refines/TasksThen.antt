@@ -1,0 +1,170 @@
+-- What the clients are in the midst of after an event.
+use Rattle.fs_types.proofs.Common.{◌≡◌, ◌≢◌, ℕ, ◌+◌, true, false, List, length, slice_index, slice_get, Option, Some, None, is_some}
+use Rattle.fs_types.proofs.Common.{same_Some, refl, sym, ap, ◌∙◌, subst, inl, inr, arith, cases_eq, cond_both}
+use Rattle.fs_types.proofs.Common.{nat_lt, slice_get_within, get_or-set_other, length-set, true≢false, ◌⊎◌}
+use Rattle.slot_plain.specs.Log.{Log}
+use Rattle.fs_script.specs.Vocabulary.{Answer, File, Given, Job, Mark, op_at, program, marks_at, range_of, runs}
+use Rattle.fs_script.specs.declared.line.Op.TheVariants as ops
+use Rattle.fs_script.proofs.CallerLemmas.{place_unique, slice_get-some, slice_get-set_same, slice_get-set_other}
+use Rattle.core_machine.specs.Vocabulary.{Op, OpLine, PathState, OwnedPath, FileSpans, Task, Idle}
+use Rattle.core_machine.specs.Vocabulary.{Read, Doing, Reading, nothing, reading, Event, PathNow}
+use Rattle.core_machine.specs.Vocabulary.{Places, free_in, MayBeIn, StandsForLookUp, StandsForTask, doing_of, event_of}
+use Rattle.core_machine.specs.Vocabulary.{file_marks, kept_now, known_of, next_in, lookup_over, read_event, create_over}
+use Rattle.core_machine.specs.Events.Open.{open_over}
+use Rattle.core_machine.proofs.Legal.Measured.{event_of-measured, Falls}
+use Rattle.core_machine.proofs.Refines.LinesAnswered.{PathsAfter, KeepsVersions}
+use Rattle.core_machine.proofs.Refines.LogsAfter.{whole-then}
+use Rattle.core_machine.proofs.Refines.StandThen.{pins-then}
+use Rattle.core_machine.proofs.Refines.Stepped.{Stepped, event, given, given_then, states_then, tasks_after, turns_with, looked_up, next-in, stood}
+
+-- ---- the version that an event looks up
+
+-- a read under way has looked up the version now, where a file is there, or goes on with what it looked up
+abbrev LooksUp : PathNow → Doing → Doing → Type 0
+LooksUp w d nothing = Unit {0}
+LooksUp w d (reading e) = ((e.version ≡ w.version) × (is_some w.marks ≡ true)) ⊎ ((f : Reading) × (d ≡ reading f) × (e.version ≡ f.version))
+
+looks-up : (s : Job) (w : PathNow) (d : Doing) (op : Op) → LooksUp w d (event_of s w d op).doing
+looks-up s w d ops.Create = by w.file where
+  by : (f : File ℕ) → LooksUp w d (create_over w f).doing
+  by None = tt
+  by (Some f) = tt
+looks-up s w d ops.Open = by w.file where
+  by : (f : File ℕ) → LooksUp w d (open_over w f).doing
+  by None = tt
+  by (Some f) = tt
+looks-up s w d (ops.Write off text) = grind (arith)
+looks-up s w d ops.Sync = grind (arith)
+looks-up s w d (ops.Read off len) = by d where
+  over : (f : File (Option Mark)) → w.marks ≡ f → LooksUp w nothing (lookup_over w f (range_of off len)).doing
+  over None is = tt
+  over (Some f) is = inl (refl, ap is_some is)
+
+  by : (e : Doing) → LooksUp w e (read_event s w e (range_of off len)).doing
+  by nothing = cond_both w.is_open _ _ (λ (e : Event). LooksUp w nothing e.doing) (λ _. over w.marks refl) (λ _. tt)
+  by (reading f) = cond_both (nat_lt f.fetched (length (runs f.marks))) _ _ (λ (e : Event). LooksUp w (reading f) e.doing)
+      (λ _. inr (f, refl, refl)) (λ _. tt)
+looks-up s w d ops.Size = grind (arith)
+
+module _ {s : Job} {paths : List (List ℕ)} {states : List PathState} {answers : Given} {turns : Places} {tasks : List Task}
+    {logs : List Log} {r : ℕ} (t : Stepped s paths states answers turns tasks logs r) (after : PathsAfter t) where
+  abbrev seen_now : PathNow
+  seen_now = kept_now s t.was.owned t.client (free_in logs r)
+
+  -- an answer ends the line
+  idle-then : (a : Answer) → t.answer ≡ Some a → t.task_then ≡ Idle
+  idle-then a is = by t.task_then (sym t.follows.doing ∙ ends) where
+    falls : Falls t.line.op (doing_of t.task) (Some a) (event t).doing
+    falls = subst (λ b. Falls t.line.op (doing_of t.task) b (event t).doing) (t.follows.answer ∙ is)
+        (subst (λ (e : Event). Falls t.line.op (doing_of t.task) e.answer e.doing) (sym t.follows.is)
+        (event_of-measured s seen_now (doing_of t.task) t.line.op).falls)
+
+    ends : (event t).doing ≡ nothing
+    ends = falls
+
+    by : (u : Task) → doing_of u ≡ nothing → u ≡ Idle
+    by Idle e = refl
+    by (Read d) e = absurd cc
+
+  task-own : (u : Task) → slice_get (tasks_after t) r ≡ Some u → u ≡ t.task_then
+  task-own u at = same_Some u t.task_then (sym at ∙ slice_get-set_same tasks r t.task_then (slice_get_within tasks r t.task t.midst))
+
+  task-other : (c : ℕ) (u : Task) → c ≢ r → slice_get (tasks_after t) c ≡ Some u → slice_get tasks c ≡ Some u
+  task-other c u other at = sym (slice_get-set_other tasks r c t.task_then other) ∙ at
+
+  -- another client's next line stays
+  next-other : (a : Option Answer) (c : ℕ) → c ≢ r → next_in (turns_with turns r a) c ≡ next_in turns c
+  next-other None c other = refl
+  next-other (Some a) c other =
+      ap (slice_get (program turns.job c)) (get_or-set_other turns.places r c (slice_index turns.places r + 1) 0 other)
+
+  -- ---- each is whole, and may be in the midst of its line
+
+  own-line : (a : Option Answer) → t.answer ≡ a → (n : ℕ) (o : OpLine) → next_in (turns_with turns r a) r ≡ Some n → op_at s n ≡ Some o
+      → MayBeIn o.op t.task_then
+  own-line (Some a) is n o at op = subst (MayBeIn o.op) (sym (idle-then a is)) tt
+  own-line None is n o at op =
+      let same : t.number ≡ n = same_Some t.number n (sym (next-in t) ∙ at) in
+      let line : t.line ≡ o = same_Some t.line o (sym t.is ∙ ap (op_at s) same ∙ op) in
+      subst (λ (l : OpLine). MayBeIn l.op t.task_then) line t.whole.midst
+
+  pub tasks-then : (c : ℕ) (u : Task) → slice_get (tasks_after t) c ≡ Some u → StandsForTask s (turns_with turns r t.answer) t.logs_then c u
+  tasks-then c u at = record {
+    task = whole-then t after c u at;
+    pins = pins-then t after c u at;
+    line = λ n o next op. elim (cases_eq c r) [
+      | inl is ↦
+          let own = task-own u (ap (slice_get (tasks_after t)) (sym is) ∙ at) in
+          subst (MayBeIn o.op) (sym own) (own-line t.answer refl n o (ap (next_in (turns_with turns r t.answer)) (sym is) ∙ next) op)
+      | inr other ↦ (t.held.tasks_stand c u (task-other c u other at)).line n o (sym (next-other t.answer c other) ∙ next) op
+    ];
+  }
+
+  -- ---- the versions that they looked up
+
+  looks-then : (x y : OwnedPath) → KeepsVersions t x y → (u : Task) → StandsForLookUp s (given t) x u → StandsForLookUp s (given_then t) y u
+  looks-then x y keeps Idle is = record { within = tt; known = tt }
+  looks-then x y keeps (Read d) is =
+      let within = is.within in
+      record { within = omega (arith, within, keeps.longer); known = is.known ∙ ap known_of (keeps.same d.version within) }
+
+  -- where a file is there now, that is known of it
+  known-now : is_some (file_marks t.was.owned.file) ≡ true
+      → record { exists = true; frozen = false } ≡ known_of (marks_at s (given t) t.was.owned.journal.items (length t.was.owned.journal.items))
+  known-now there = by t.was.owned.file there ∙ ap known_of (stood t).owned.marks where
+    by : (f : Option FileSpans) → is_some (file_marks f) ≡ true → record { exists = true; frozen = false } ≡ known_of (file_marks f)
+    by None is = absurd (true≢false (sym is))
+    by (Some f) is = refl
+
+  -- what the client whose event it is has looked up, by what was kept
+  own-looks : (u : Task) → doing_of u ≡ (event t).doing → StandsForLookUp s (given t) t.was.owned u
+  own-looks Idle is = record { within = tt; known = tt }
+  own-looks (Read d) is =
+      elim (subst (LooksUp seen_now (doing_of t.task)) (sym is)
+      (subst (λ (e : Event). LooksUp seen_now (doing_of t.task) e.doing) (sym t.follows.is) (looks-up s seen_now (doing_of t.task) t.line.op))) [
+        | inl now ↦ record {
+          within = omega (arith, now.0);
+          known = known-now now.1 ∙ ap (λ v. known_of (marks_at s (given t) t.was.owned.journal.items v)) (sym now.0);
+        }
+        | inr goes_on ↦ went_on t.task goes_on.0 goes_on.1 goes_on.2 (looked_up t)
+      ]
+    where
+      went_on : (v : Task) (f : Reading) → doing_of v ≡ reading f → d.version ≡ f.version → StandsForLookUp s (given t) t.was.owned v
+          → StandsForLookUp s (given t) t.was.owned (Read d)
+      went_on Idle f same version was = absurd cc
+      went_on (Read e) f same version was =
+          let at : e.version ≡ d.version = ap version_in same ∙ sym version in
+          let within = was.within in
+          record {
+            within = omega (arith, within, at);
+            known = was.known ∙ ap (λ v. known_of (marks_at s (given t) t.was.owned.journal.items v)) at;
+          }
+        where
+          version_in : Doing → ℕ
+          version_in nothing = 0
+          version_in (reading x) = x.version
+
+  pub looked-then : (c : ℕ) (u : Task) (n i : ℕ) (o : OpLine) (x : PathState) → slice_get (tasks_after t) c ≡ Some u
+      → next_in (turns_with turns r t.answer) c ≡ Some n → op_at s n ≡ Some o → slice_get paths i ≡ Some o.path
+      → slice_get (states_then t) i ≡ Some x → StandsForLookUp s (given_then t) x.owned u
+  looked-then c u n i o x at next op place there = elim (cases_eq c r) [
+    | inl is ↦
+        let own = task-own u (ap (slice_get (tasks_after t)) (sym is) ∙ at) in
+        subst (StandsForLookUp s (given_then t) x.owned) (sym own)
+        (mine t.answer refl (ap (next_in (turns_with turns r t.answer)) (sym is) ∙ next))
+    | inr other ↦
+        let lt = slice_get_within (states_then t) i x there in
+        let was = slice_get-some states i (omega (arith, lt, length-set states t.place t.then)) in
+        let before = t.held.looked_up c u n i o was.0 (task-other c u other at) (sym (next-other t.answer c other) ∙ next) op place was.1 in
+        looks-then was.0.owned x.owned (after.versions i was.0 x was.1 there) u before
+  ]
+    where
+      mine : (a : Option Answer) → t.answer ≡ a → next_in (turns_with turns r a) r ≡ Some n → StandsForLookUp s (given_then t) x.owned t.task_then
+      mine (Some a) is at_next = subst (StandsForLookUp s (given_then t) x.owned) (sym (idle-then a is)) (record { within = tt; known = tt })
+      mine None is at_next =
+          let same : t.number ≡ n = same_Some t.number n (sym (next-in t) ∙ at_next) in
+          let line : t.line ≡ o = same_Some t.line o (sym t.is ∙ ap (op_at s) same ∙ op) in
+          let here : i ≡ t.place = place_unique paths i t.place t.line.path t.held.named.rising
+          (place ∙ ap (λ (l : OpLine). Some l.path) (sym line)) t.at in
+          looks-then t.was.owned x.owned (after.versions i t.was x (ap (slice_get states) here ∙ t.there) there) t.task_then
+          (own-looks t.task_then (sym t.follows.doing))

@@ -1,0 +1,13 @@
+-- Runs of bytes with one more behind the others.
+use Rattle.std.specs.Prelude.{◌+◌, List, [], ◌∷◌, if◌then◌else◌}
+use Rattle.fs_script.specs.Vocabulary.{Fragment, goes_on}
+
+-- two runs of which the first goes on in the second, as one
+abbrev pub joined : Fragment → Fragment → Fragment
+joined f g = record { at = f.at; len = f.len + g.len; piece = f.piece; from = f.from }
+
+-- a run behind others: one with the last of them, where that goes on in it
+abbrev pub with_last : List Fragment → Fragment → List Fragment
+with_last [] g = g ∷ []
+with_last (f ∷ []) g = if goes_on f g then joined f g ∷ [] else f ∷ g ∷ []
+with_last (f ∷ h ∷ fs) g = f ∷ with_last (h ∷ fs) g
