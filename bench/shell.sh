@@ -53,6 +53,7 @@ L 4 ok v=2
 L 5 ok v=2 n=3 hex=656c6c
 J /unifyfs/a 2 4
 F /unifyfs/a n=5 frozen=0 md5=5d41402abc4b2a76b9719d911017c592
+S 0 held=1 free=3 faults=0
 end
 '
 

@@ -1,7 +1,8 @@
 #!/usr/bin/env bash
 # Times `sim 0` on jobs of growing sizes, and prints for each how many microseconds and how many read
-# bytes come to a line, and how the time of a line grew from the size before it. A growth of 1.00 is
-# in proportion to the job.
+# bytes come to a line, how the time of a line grew from the size before it, and how many MiB of memory
+# the program had at most. A growth of 1.00 is in proportion to the job. The memory is measured by the
+# command /usr/bin/time of GNU; where that isn't there, none is printed.
 #
 # usage: bench/sim.sh [PROGRAM]     PROGRAM: the program to time, in place of the one built here
 set -eu
@@ -87,6 +88,63 @@ phases() {
     }'
 }
 
+# A job of one client with a log of 64 slots, of so many lines over four small files of twelve slots
+# each. In every thirteen lines there are twelve writes of one slot each, over what was written before,
+# and a sync; so each slot is taken again and again.
+reuse() {
+    awk -v lines="$1" 'BEGIN {
+        paths = 4
+        print "unifyfs 1 servers=1 clients=1 chunk=64 shmem=64 spill=0"
+        n = 1
+        for (p = 0; p < paths; p++) {
+            printf "0 create /unifyfs/bench/%d\n", p
+            n++
+        }
+        for (i = 0; n < lines; i++) {
+            p = int(i / 13) % paths
+            k = i % 13
+            if (k == 12) printf "0 sync /unifyfs/bench/%d\n", p
+            else printf "0 write /unifyfs/bench/%d %d p:%d:64\n", p, 64 * k, n
+            n++
+        }
+    }'
+}
+
+# A job of one client, of so many lines over two files of 256 slots each, which it writes slot by slot
+# first. In every three lines after that it writes one slot of a file again, syncs, and reads 256 bytes.
+pieces() {
+    awk -v lines="$1" 'BEGIN {
+        paths = 2
+        slots = 256
+        print "unifyfs 1 servers=1 clients=1 chunk=64 shmem=1024 spill=0"
+        n = 1
+        for (p = 0; p < paths; p++) {
+            printf "0 create /unifyfs/bench/%d\n", p
+            for (k = 0; k < slots; k++) printf "0 write /unifyfs/bench/%d %d p:%d:64\n", p, 64 * k, k
+            printf "0 sync /unifyfs/bench/%d\n", p
+            n += slots + 2
+        }
+        for (i = 0; n < lines; i++) {
+            p = int(i / 3) % paths
+            k = (37 * int(i / 3)) % slots
+            if (i % 3 == 0) printf "0 write /unifyfs/bench/%d %d p:%d:64\n", p, 64 * k, n
+            if (i % 3 == 1) printf "0 sync /unifyfs/bench/%d\n", p
+            if (i % 3 == 2) printf "0 read /unifyfs/bench/%d %d 256\n", p, 64 * ((k + 128) % (slots - 4))
+            n++
+        }
+    }'
+}
+
+# A job of five lines with the largest log that a header allows, and three small writes.
+largest_log() {
+    echo 'unifyfs 1 servers=1 clients=1 chunk=4096 shmem=65536 spill=0'
+    echo '0 create /unifyfs/bench'
+    echo '0 write /unifyfs/bench 0 p:1:100'
+    echo '0 write /unifyfs/bench 100 p:2:100'
+    echo '0 write /unifyfs/bench 200 p:3:100'
+    echo '0 sync /unifyfs/bench'
+}
+
 now() {
     local t=${EPOCHREALTIME/[.,]/}
     printf '%s' "$t"
@@ -106,6 +164,16 @@ shortest() {
     printf '%s' "$best"
 }
 
+# The MiB of memory that the program had at most.
+peak() {
+    if [ ! -x /usr/bin/time ]; then
+        printf -- '-'
+        return
+    fi
+    /usr/bin/time -f %M -o "$work/peak" "$program" sim 0 <"$1" >"$work/report"
+    awk '{ printf "%.1f", $1 / 1024 }' "$work/peak"
+}
+
 # The report answers each operation, and is whole.
 check_report() {
     local answers operations
@@ -121,20 +189,27 @@ check_report() {
 times() {
     local job=$1 before=0 lines took bytes
     shift
-    printf '\n%s\n%8s %14s %18s %16s %8s\n' "$job" lines microseconds microseconds/line 'bytes read/line' growth
+    printf '\n%s\n%8s %14s %18s %16s %8s %8s\n' "$job" lines microseconds microseconds/line 'bytes read/line' growth MiB
     for lines in "$@"; do
         "$job" "$lines" >"$work/job"
         took=$(shortest "$work/job")
         check_report
         bytes=$(awk '/^L .* n=[0-9]* (hex|md5)=/ { split($5, n, "="); sum += n[2] } END { print sum + 0 }' "$work/report")
-        awk -v lines="$lines" -v took="$took" -v bytes="$bytes" -v before="$before" 'BEGIN {
+        awk -v lines="$lines" -v took="$took" -v bytes="$bytes" -v before="$before" -v peak="$(peak "$work/job")" 'BEGIN {
             growth = before == 0 ? "-" : sprintf("%.2f", took / lines / before)
-            printf "%8d %14d %18.2f %16.2f %8s\n", lines, took, took / lines, bytes / lines, growth
+            printf "%8d %14d %18.2f %16.2f %8s %8s\n", lines, took, took / lines, bytes / lines, growth, peak
         }'
         before=$(awk -v lines="$lines" -v took="$took" 'BEGIN { print took / lines }')
     done
 }
 
 times one_client 1000 2000 4000 8000
-# The time of a line is to grow at most 1.3 from the first size to the second.
+# In each of these the time of a line is to grow at most 1.3 from the first size to the second, and the
+# last two are to have at most 64 MiB. The last job of `reuse` has 60,000 writes, that of `pieces` 20,000 reads.
 times phases 8000 60000
+times reuse 8000 60000 65010
+times pieces 8000 60600
+
+# This one is to have at most 32 MiB.
+largest_log >"$work/job"
+printf '\nlargest_log\n%s MiB\n' "$(peak "$work/job")"
