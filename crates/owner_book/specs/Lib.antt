@@ -1,0 +1,6 @@
+pub mod Names
+pub mod Kept
+pub mod Calls
+pub mod Commits
+pub mod Journals
+pub mod Lookups
