@@ -5,14 +5,7 @@ pub mod Counts
 pub mod Releases
 pub mod Moves
 pub mod Holds
-pub mod Lent
-pub mod Entered
-mod Dropped
-pub mod Discounted
-pub mod Pushed
 pub mod Places
 mod OnePut
 mod AllPut
-mod PushPut
-mod CutOff
 mod Cases

@@ -1,19 +1,14 @@
 //! Fragments of a file with the holds of the pieces that they name.
 
-ghost use Rattle.std.specs.Prelude.{◌≡◌, ◌≤◌, ◌<◌, ◌+◌, ◌^◌, [], None, All, IsSome, IsTrue, ◌↔◌, length, vec_len, vec_capacity, option_copied, IsOk, IfErr, OnOk, OnErr};
-ghost use Rattle.std.specs.Borrow.{sem};
-ghost use Rattle.std.specs.Option.{option_copied_mut};
-ghost use Rattle.piece_table.specs.HeldLends.{lends_held};
-ghost use Rattle.fs_types.specs.Fragments.{IsWellFormedPush};
+ghost use Rattle.std.specs.Prelude.{◌≡◌, ◌≤◌, ◌+◌, [], IsSome, IsTrue, ◌↔◌, option_copied, OnOk, OnErr};
 ghost use Rattle.fs_types.specs.Pieces.{Piece};
 ghost use Rattle.span_list.specs.Spans.{IsSpan, next_fragment};
-ghost use Rattle.piece_table.specs.HeldSpans.{AreHeld, Cuts, HandsOver, IsCounted, Puts, PutsAll, held, pushed};
+ghost use Rattle.piece_table.specs.HeldSpans.{AreHeld, HandsOver, Puts, PutsAll, held};
 
-use crate::laying::{lay, lay_all, release_covered};
+use crate::laying::{lay, lay_all};
 use crate::piece_table::PieceTable;
-use crate::pushing::{enter_push, lay_each, pieces_of};
 use crate::ranges::count_covered;
-use fs_types::{Frag, Hold, LONGEST_FILE, PieceId, Push, Want};
+use fs_types::{Frag, Hold, LONGEST_FILE, PieceId, Want};
 use span_list::Spans;
 use std::alloc::Global;
 use std::marker::Model;
@@ -26,13 +21,14 @@ pub struct HeldSpans<H: Hold, S: Spans> {
 }
 
 impl<H: Hold, S: Spans> Model for HeldSpans<H, S> {
-    ghost use Rattle.piece_table.specs.HeldSpans.{IsCounted, Kept, kept};
+    ghost use Rattle.piece_table.specs.HeldSpans.{IsKept, Kept, kept};
 
     ghost Value = { Kept H };
 
     ghost view = { λ x. kept (S.fragments x.spans) x.pieces };
 
-    ghost invariant = { λ x. IsCounted (kept (S.fragments x.spans) x.pieces) };
+    ghost invariant = { λ x. IsKept H.is_ready H.piece H.bytes
+        (kept (S.fragments x.spans) x.pieces) };
 }
 
 impl<H: Hold + Drop, S: Spans> HeldSpans<H, S> {
@@ -40,7 +36,6 @@ impl<H: Hold + Drop, S: Spans> HeldSpans<H, S> {
     pub fn new(alloc: Global) -> HeldSpans<H, S>
         ensures fragments { (held result).fragments ≡ [] }
         ensures holds { (q : Piece) → (held result).hold_of q ≡ None }
-        ensures are_held { AreHeld H.is_ready H.piece H.bytes (held result) }
     {
         HeldSpans {
             spans: S::new(alloc),
@@ -51,54 +46,31 @@ impl<H: Hold + Drop, S: Spans> HeldSpans<H, S> {
     /// Whether there are no fragments.
     pub fn is_empty(&self) -> bool
         ensures empty { IsTrue result ↔ ((held self.now).fragments ≡ []) }
-        ensures counted { IsCounted self.now }
+        ensures are_held { AreHeld H.is_ready H.piece H.bytes (held self.now) }
     {
         self.spans.next(0).is_none()
-    }
-
-    /// How many pieces the fragments name.
-    pub fn piece_count(&self) -> usize
-        ensures count { result ≡ length self.now.pieces.entries }
-        ensures small { result < 2 ^ 63 }
-        ensures counted { IsCounted self.now }
-    {
-        self.pieces.len()
     }
 
     /// The first whole fragment that ends after a place, if any.
     pub fn next(&self, at: u64) -> Option<Frag>
         ensures next { result ≡ next_fragment at (held self.now).fragments }
-        ensures counted { IsCounted self.now }
+        ensures are_held { AreHeld H.is_ready H.piece H.bytes (held self.now) }
     {
         self.spans.next(at)
     }
 
     /// The hold of a piece that some fragment names.
-    pub fn get(&self, p: PieceId) -> Option<&H>
+    pub fn hold_of(&self, p: PieceId) -> Option<&H>
         ensures hold { option_copied result ≡ (held self.now).hold_of p }
-        ensures counted { IsCounted self.now }
+        ensures are_held { AreHeld H.is_ready H.piece H.bytes (held self.now) }
     {
-        self.pieces.get(p)
-    }
-
-    /// The hold of a piece that some fragment names, to change. What is left behind the reference
-    /// is the hold of the piece then; the fragments, and all other holds, stay.
-    pub fn hold_of(&mut self, p: PieceId) -> Option<&mut H>
-        ensures* writes_back { sem 𝓛 (lends_held H.row S.row H.Hold S.Spans self.entry p result) }
-        ensures hold { option_copied_mut result ≡ (held self.old).hold_of p }
-        ensures counted { IsCounted self.old }
-    {
-        let Some(hold) = self.pieces.hold(p) else {
-            return None;
-        };
-        Some(hold)
+        self.pieces.hold(p)
     }
 
     /// Puts a fragment of a new piece over the others. The holds of pieces that no fragment names
-    /// any more are pushed to `dead`. After want of memory nothing has changed, and the hold is
-    /// given back.
-    pub fn put(&mut self, f: Frag, h: H, dead: &mut Vec<H>) -> Result<(), (Want, H)>
-        requires are_held { AreHeld H.is_ready H.piece H.bytes (held self.old) }
+    /// any more are pushed to `dead`. After want of memory nothing has changed but that the hold is
+    /// dropped.
+    pub fn put(&mut self, f: Frag, h: H, dead: &mut Vec<H>) -> Result<(), Want>
         requires span { IsSpan f }
         requires ready { IsTrue (H.is_ready h) }
         requires piece { H.piece h ≡ f.piece }
@@ -107,16 +79,15 @@ impl<H: Hold + Drop, S: Spans> HeldSpans<H, S> {
         ensures put { OnOk result (Puts f h (held self.old) (held self.new)) }
         ensures dead { OnOk result (HandsOver H.piece (held self.old) (held self.new)
             dead.old.items dead.new.items) }
-        ensures given_back { IfErr result (λ e. e.1 ≡ h) }
         ensures same { OnErr result (held self.new ≡ held self.old) }
         ensures same_dead { OnErr result (dead.new.items ≡ dead.old.items) }
         ensures are_held { AreHeld H.is_ready H.piece H.bytes (held self.new) }
     {
-        let count = count_covered(&self.spans, f.at, f.at + f.len);
-        if dead.reserve(count).is_err() || self.spans.reserve(2).is_err() {
-            return Err((Want, h));
+        dead.reserve(count_covered(&self.spans, f.at, f.at + f.len))?;
+        self.spans.reserve(2)?;
+        if let Err((want, _)) = self.pieces.enter(h) {
+            return Err(want);
         }
-        self.pieces.enter(h)?;
         lay(&mut self.spans, &mut self.pieces, f, dead);
         Ok(())
     }
@@ -125,9 +96,7 @@ impl<H: Hold + Drop, S: Spans> HeldSpans<H, S> {
     /// empty. No piece of the other is here. The holds of pieces that no fragment names any more
     /// are pushed to `dead`. After want of memory nothing has changed.
     pub fn put_all(&mut self, over: &mut HeldSpans<H, S>, dead: &mut Vec<H>) -> Result<(), Want>
-        requires are_held { AreHeld H.is_ready H.piece H.bytes (held self.old) }
-        requires over_held { AreHeld H.is_ready H.piece H.bytes (held over.old) }
-        requires new_pieces { (q : Piece)
+        requires { (q : Piece)
             → IsSome ((held over.old).hold_of q) → (held self.old).hold_of q ≡ None }
         ensures put { OnOk result (PutsAll (held over.old) (held self.old) (held self.new)) }
         ensures dead { OnOk result (HandsOver H.piece (held self.old) (held self.new)
@@ -148,72 +117,9 @@ impl<H: Hold + Drop, S: Spans> HeldSpans<H, S> {
         Ok(())
     }
 
-    /// Puts a push over these fragments, its fragments in order with their holds. No piece of it is
-    /// here. The holds of pieces that no fragment names any more are pushed to `dead`. After want of
-    /// memory nothing has changed, and the push is given back.
-    pub fn put_push(&mut self, push: Push<H>, dead: &mut Vec<H>) -> Result<(), (Want, Push<H>)>
-        requires are_held { AreHeld H.is_ready H.piece H.bytes (held self.old) }
-        requires well_formed { IsWellFormedPush H.piece H.bytes push }
-        requires ready { All (λ h. IsTrue (H.is_ready h)) push.holds.items }
-        requires new_pieces { All (λ h. (held self.old).hold_of (H.piece h) ≡ None)
-            push.holds.items }
-        ensures put { OnOk result (PutsAll (pushed H.piece push.frags.items push.holds.items)
-            (held self.old) (held self.new)) }
-        ensures dead { OnOk result (HandsOver H.piece (held self.old) (held self.new)
-            dead.old.items dead.new.items) }
-        ensures count { OnOk result (length self.new.pieces.entries + vec_len dead.new
-            ≡ length self.old.pieces.entries + vec_len push.holds + vec_len dead.old) }
-        ensures capacity { vec_capacity dead.old ≤ vec_capacity dead.new }
-        ensures given_back { IfErr result (λ e. e.1 ≡ push) }
-        ensures same { OnErr result (held self.new ≡ held self.old) }
-        ensures same_dead { OnErr result (dead.new.items ≡ dead.old.items) }
-        ensures are_held { AreHeld H.is_ready H.piece H.bytes (held self.new) }
-    {
-        let count = push.frags.len();
-        if self.spans.reserve(2 * count).is_err() {
-            return Err((Want, push));
-        }
-        let count = push.holds.len();
-        if self.pieces.reserve(count).is_err() || dead.reserve(self.pieces.len() + count).is_err() {
-            return Err((Want, push));
-        }
-        let Ok(pieces) = pieces_of(*dead.allocator(), &push.holds) else {
-            return Err((Want, push));
-        };
-        let Push { frags, holds } = push;
-        enter_push(&mut self.pieces, &frags, holds, &pieces);
-        lay_each(&mut self.spans, &mut self.pieces, &frags, dead);
-        Ok(())
-    }
-
-    /// Drops all bytes from the place `size` on. The holds of pieces that no fragment names any
-    /// more are pushed to `dead`; where that has room for all pieces, it takes no memory. After want
-    /// of memory nothing has changed.
-    pub fn cut(&mut self, size: u64, dead: &mut Vec<H>) -> Result<(), Want>
-        requires are_held { AreHeld H.is_ready H.piece H.bytes (held self.old) }
-        ensures cut { OnOk result (Cuts size (held self.old) (held self.new)) }
-        ensures dead { OnOk result (HandsOver H.piece (held self.old) (held self.new)
-            dead.old.items dead.new.items) }
-        ensures count { OnOk result (length self.new.pieces.entries + vec_len dead.new
-            ≡ length self.old.pieces.entries + vec_len dead.old) }
-        ensures capacity { vec_capacity dead.old ≤ vec_capacity dead.new }
-        ensures room { length self.old.pieces.entries + vec_len dead.old ≤ vec_capacity dead.old
-            → IsOk result }
-        ensures same { OnErr result (held self.new ≡ held self.old) }
-        ensures same_dead { OnErr result (dead.new.items ≡ dead.old.items) }
-        ensures are_held { AreHeld H.is_ready H.piece H.bytes (held self.new) }
-    {
-        let count = count_covered(&self.spans, size, LONGEST_FILE);
-        dead.reserve(count.min(self.pieces.len()))?;
-        release_covered(&self.spans, &mut self.pieces, size, LONGEST_FILE, dead);
-        self.spans.cut(size);
-        Ok(())
-    }
-
     /// Drops all fragments. All holds are pushed to `dead`. After want of memory nothing has
     /// changed.
     pub fn clear(&mut self, dead: &mut Vec<H>) -> Result<(), Want>
-        requires are_held { AreHeld H.is_ready H.piece H.bytes (held self.old) }
         ensures fragments { OnOk result ((held self.new).fragments ≡ []) }
         ensures dead { OnOk result (HandsOver H.piece (held self.old) (held self.new)
             dead.old.items dead.new.items) }

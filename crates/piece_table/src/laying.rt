@@ -6,7 +6,7 @@ ghost use Rattle.fs_types.specs.Fragments.{end_of, fragment_count, piece_eq};
 ghost use Rattle.fs_types.specs.Pieces.{Piece};
 ghost use Rattle.span_list.specs.Spans.{IsSpan, put_fragment};
 ghost use Rattle.piece_table.specs.HeldSpans.{put_fragments};
-ghost use Rattle.piece_table.specs.PieceTable.{AreTheirs, hold_of, number_of};
+ghost use Rattle.piece_table.specs.PieceTable.{hold_of, number_of};
 ghost use Rattle.piece_table.specs.Ranges.{covered, reaching};
 ghost use Rattle.piece_table.specs.Thinning.{Thins, ComesOut};
 
@@ -18,7 +18,6 @@ use span_list::Spans;
 // One fragment of a piece goes out.
 fn release_one<H: Hold + Drop>(pieces: &mut PieceTable<H>, p: PieceId, dead: &mut Vec<H>)
     requires there { 0 < number_of pieces.old p }
-    requires theirs { AreTheirs H.piece (hold_of pieces.old) }
     requires room { vec_len dead.old < vec_capacity dead.old }
     ensures numbers { (q : Piece)
         → number_of pieces.new q + (if piece_eq p q then 1 else 0) ≡ number_of pieces.old q }
@@ -35,8 +34,8 @@ fn release_one<H: Hold + Drop>(pieces: &mut PieceTable<H>, p: PieceId, dead: &mu
     }
 }
 
-/// The fragments that lie whole between two places go out.
-pub fn release_covered<H: Hold + Drop, S: Spans>(
+// The fragments that lie whole between two places go out.
+fn release_covered<H: Hold + Drop, S: Spans>(
     spans: &S,
     pieces: &mut PieceTable<H>,
     at: u64,
@@ -45,7 +44,6 @@ pub fn release_covered<H: Hold + Drop, S: Spans>(
 )
     requires there { (q : Piece) → fragment_count q (covered at end (S.fragments spans.now))
         ≤ number_of pieces.old q }
-    requires theirs { AreTheirs H.piece (hold_of pieces.old) }
     requires unheld { (q : Piece) → number_of pieces.old q ≡ 0 → hold_of pieces.old q ≡ None }
     requires room { min (length (covered at end (S.fragments spans.now)))
         (length pieces.old.entries) + vec_len dead.old ≤ vec_capacity dead.old }
@@ -98,7 +96,6 @@ pub fn lay<H: Hold + Drop, S: Spans>(
     requires there { (q : Piece) → fragment_count q (f ∷ S.fragments spans.old)
         ≤ number_of pieces.old q }
     requires few { (q : Piece) → number_of pieces.old q < 2 ^ 63 }
-    requires theirs { AreTheirs H.piece (hold_of pieces.old) }
     requires unheld { (q : Piece) → number_of pieces.old q ≡ 0 → hold_of pieces.old q ≡ None }
     requires room { min (length (covered f.at (end_of f) (S.fragments spans.old)))
         (length pieces.old.entries) + vec_len dead.old ≤ vec_capacity dead.old }
@@ -130,7 +127,6 @@ pub fn lay_all<H: Hold + Drop, S: Spans>(
     requires spare { 2 * length (S.fragments over.now) ≤ S.spare spans.old }
     requires counted { (q : Piece) → number_of pieces.old q
         ≡ fragment_count q (S.fragments spans.old) + fragment_count q (S.fragments over.now) }
-    requires theirs { AreTheirs H.piece (hold_of pieces.old) }
     requires unheld { (q : Piece) → number_of pieces.old q ≡ 0 → hold_of pieces.old q ≡ None }
     requires room { length pieces.old.entries + vec_len dead.old ≤ vec_capacity dead.old }
     ensures fragments { S.fragments spans.new

@@ -21,7 +21,6 @@
 mod held_spans;
 mod laying;
 mod piece_table;
-mod pushing;
 mod ranges;
 
 pub use held_spans::HeldSpans;

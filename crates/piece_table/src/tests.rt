@@ -1,6 +1,6 @@
-ghost use Rattle.std.specs.Prelude.{◌≡◌, ◌≤◌, ◌<◌, ◌⊎◌, true, IsSome, IfOk, OnOk};
+ghost use Rattle.std.specs.Prelude.{◌≡◌, ◌≤◌, ◌<◌, ◌⊎◌, IsSome, IfOk, OnOk};
 ghost use Rattle.fs_types.specs.Pieces.{Piece};
-ghost use Rattle.piece_table.specs.HeldSpans.{AreHeld, held};
+ghost use Rattle.piece_table.specs.HeldSpans.{held};
 
 use super::*;
 use fs_types::{Frag, Hold, LONGEST_FILE, LineNo, MemHold, PieceId};
@@ -22,16 +22,14 @@ fn piece(line: u32) -> PieceId
 
 // Puts the whole of a new piece.
 fn put(kept: &mut Kept, at: u64, len: u32, line: u32, dead: &mut Vec<MemHold>) -> Result<(), Fail>
-    requires { AreHeld (λ _. true) (λ h. h.piece) (λ h. h.bytes) (held kept.old) }
-    ensures lines { OnOk result ((q : Piece) → IsSome ((held kept.new).hold_of q)
+    ensures { OnOk result ((q : Piece) → IsSome ((held kept.new).hold_of q)
         → IsSome ((held kept.old).hold_of q) ⊎ (q.line ≡ line)) }
-    ensures are_held { AreHeld (λ _. true) (λ h. h.piece) (λ h. h.bytes) (held kept.new) }
 {
     let piece = piece(line);
     if len == 0 || at > LONGEST_FILE - u64::from(len) {
         return Err("a fragment of no file".into());
     }
-    if kept.get(piece).is_some() {
+    if kept.hold_of(piece).is_some() {
         return Err("the piece is there".into());
     }
     let f = Frag {
@@ -47,24 +45,18 @@ fn put(kept: &mut Kept, at: u64, len: u32, line: u32, dead: &mut Vec<MemHold>) -
 }
 
 // What puts of new pieces give, each as the place, the length and the line, where the lines are
-// within a range. The holds that come out go to `dead`.
-fn held_of(
-    alloc: Global,
-    first: u32,
-    past: u32,
-    puts: &[(u64, u32, u32)],
-    dead: &mut Vec<MemHold>,
-) -> Result<Kept, Fail>
-    ensures lines { IfOk result (λ kept. (q : Piece) → IsSome ((held kept).hold_of q)
+// within a range.
+fn held_of(alloc: Global, first: u32, past: u32, puts: &[(u64, u32, u32)]) -> Result<Kept, Fail>
+    ensures { IfOk result (λ kept. (q : Piece) → IsSome ((held kept).hold_of q)
         → (first ≤ q.line) × (q.line < past)) }
-    ensures are_held { IfOk result (λ kept. AreHeld (λ _. true) (λ h. h.piece) (λ h. h.bytes) (held kept)) }
 {
     let mut kept = HeldSpans::new(alloc);
+    let mut dead = Vec::new(alloc);
     for (at, len, line) in puts {
         if *line < first || past <= *line {
             return Err("a line outside the range".into());
         }
-        put(&mut kept, *at, *len, *line, dead)?;
+        put(&mut kept, *at, *len, *line, &mut dead)?;
     }
     Ok(kept)
 }
@@ -126,12 +118,15 @@ fn a_hold_comes_out_with_the_last_byte_of_its_piece(rt: HostRuntime) -> Result<(
         ("its first byte is left", &[(20, 10, 1), (21, 9, 2)], &[]),
         ("its last byte is left", &[(20, 10, 1), (20, 9, 2)], &[]),
     ] {
+        let mut held: Kept = HeldSpans::new(alloc);
         let mut dead = Vec::new(alloc);
-        let held = held_of(alloc, 0, 10, puts, &mut dead)?;
+        for (at, len, line) in puts {
+            put(&mut held, *at, *len, *line, &mut dead)?;
+        }
         let found = lines(alloc, &dead)?;
         assert_eq!(rt; found.as_slice(), want, "{name}");
         for line in want {
-            assert!(rt; held.get(piece(*line)).is_none(), "{name}");
+            assert!(rt; held.hold_of(piece(*line)).is_none(), "{name}");
         }
     }
     Ok(())
@@ -140,9 +135,7 @@ fn a_hold_comes_out_with_the_last_byte_of_its_piece(rt: HostRuntime) -> Result<(
 #[test]
 fn both_halves_of_a_piece_are_held(rt: HostRuntime) -> Result<(), Fail> {
     let alloc = rt.alloc();
-    let mut dead = Vec::new(alloc);
-    let held = held_of(alloc, 0, 10, &[(20, 10, 1), (24, 2, 2)], &mut dead)?;
-    assert!(rt; dead.is_empty());
+    let held = held_of(alloc, 0, 10, &[(20, 10, 1), (24, 2, 2)])?;
     for (at, want) in [
         (19, None),
         (20, Some(1)),
@@ -155,9 +148,9 @@ fn both_halves_of_a_piece_are_held(rt: HostRuntime) -> Result<(), Fail> {
     ] {
         assert_eq!(rt; line_at(&held, at), want, "at {at}");
     }
-    assert!(rt; held.get(piece(1)).is_some());
-    assert!(rt; held.get(piece(2)).is_some());
-    assert!(rt; held.get(piece(3)).is_none());
+    assert!(rt; held.hold_of(piece(1)).is_some());
+    assert!(rt; held.hold_of(piece(2)).is_some());
+    assert!(rt; held.hold_of(piece(3)).is_none());
     Ok(())
 }
 
@@ -165,7 +158,7 @@ fn both_halves_of_a_piece_are_held(rt: HostRuntime) -> Result<(), Fail> {
 fn assert_stand(rt: &impl Abort, name: &str, kept: &Kept, marks: &[(u64, u32)]) {
     for (at, line) in marks {
         assert_eq!(rt; line_at(kept, *at), Some(*line), "{name}, at {at}");
-        assert!(rt; kept.get(piece(*line)).is_some(), "{name}, at {at}");
+        assert!(rt; kept.hold_of(piece(*line)).is_some(), "{name}, at {at}");
     }
 }
 
@@ -207,10 +200,9 @@ fn all_of_a_list_is_put_over_another(rt: HostRuntime) -> Result<(), Fail> {
         ("into nothing", &[], &[(3, 2, 11)], &[(3, 11), (4, 11)], &[]),
         ("nothing", &[(3, 2, 1)], &[], &[(3, 1), (4, 1)], &[]),
     ] {
+        let mut kept = held_of(alloc, 0, 10, below)?;
+        let mut over = held_of(alloc, 10, 20, above)?;
         let mut dead = Vec::new(alloc);
-        let mut kept = held_of(alloc, 0, 10, below, &mut dead)?;
-        let mut over = held_of(alloc, 10, 20, above, &mut dead)?;
-        assert!(rt; dead.is_empty(), "{name}");
         kept.put_all(&mut over, &mut dead)
             .ok()
             .ok_or("there is memory")?;
@@ -219,7 +211,7 @@ fn all_of_a_list_is_put_over_another(rt: HostRuntime) -> Result<(), Fail> {
         assert_eq!(rt; found.as_slice(), want, "{name}");
         assert!(rt; over.is_empty(), "{name}");
         for line in 11..13 {
-            assert!(rt; over.get(piece(line)).is_none(), "{name}");
+            assert!(rt; over.hold_of(piece(line)).is_none(), "{name}");
         }
     }
     Ok(())
@@ -228,14 +220,8 @@ fn all_of_a_list_is_put_over_another(rt: HostRuntime) -> Result<(), Fail> {
 #[test]
 fn all_holds_come_out_of_a_list_that_is_cleared(rt: HostRuntime) -> Result<(), Fail> {
     let alloc = rt.alloc();
+    let mut kept = held_of(alloc, 0, 10, &[(0, 10, 1), (4, 2, 2), (30, 1, 3)])?;
     let mut dead = Vec::new(alloc);
-    let mut kept = held_of(
-        alloc,
-        0,
-        10,
-        &[(0, 10, 1), (4, 2, 2), (30, 1, 3)],
-        &mut dead,
-    )?;
     assert!(rt; !kept.is_empty());
     kept.clear(&mut dead).ok().ok_or("there is memory")?;
     let found = lines(alloc, &dead)?;
@@ -243,7 +229,7 @@ fn all_holds_come_out_of_a_list_that_is_cleared(rt: HostRuntime) -> Result<(), F
     assert!(rt; kept.is_empty());
     assert_eq!(rt; kept.next(0), None);
     for line in 1..4 {
-        assert!(rt; kept.get(piece(line)).is_none());
+        assert!(rt; kept.hold_of(piece(line)).is_none());
     }
     Ok(())
 }
@@ -254,7 +240,7 @@ fn a_table_counts_the_fragments_of_a_piece(rt: HostRuntime) -> Result<(), Fail> 
     let mut pieces = PieceTable::new(alloc);
     pieces.reserve(2).ok().ok_or("there is memory")?;
     for line in [1, 2] {
-        if pieces.get(piece(line)).is_some() {
+        if pieces.hold(piece(line)).is_some() {
             return Err("the piece is there".into());
         }
         pieces
@@ -271,132 +257,9 @@ fn a_table_counts_the_fragments_of_a_piece(rt: HostRuntime) -> Result<(), Fail> 
     one.more(piece(3));
     assert!(rt; one.less(piece(3)).is_none(), "two are left");
     assert!(rt; one.less(piece(3)).is_none(), "one is left");
-    assert!(rt; one.get(piece(3)).is_some(), "one is left");
+    assert!(rt; one.hold(piece(3)).is_some(), "one is left");
     let hold = one.less(piece(3)).ok_or("it was the last")?;
     assert_eq!(rt; hold.piece(), piece(3));
-    assert!(rt; one.get(piece(3)).is_none(), "none is left");
-    Ok(())
-}
-
-#[test]
-fn a_cut_drops_the_holds_of_what_lies_behind_it(rt: HostRuntime) -> Result<(), Fail> {
-    let alloc = rt.alloc();
-    for (size, want) in [
-        (0, [1, 2, 3].as_slice()),
-        (4, &[2, 3]),
-        (5, &[3]),
-        (30, &[3]),
-        (31, &[]),
-    ] {
-        let mut dead = Vec::new(alloc);
-        let mut kept = held_of(
-            alloc,
-            0,
-            10,
-            &[(0, 10, 1), (4, 6, 2), (30, 1, 3)],
-            &mut dead,
-        )?;
-        kept.cut(size, &mut dead).ok().ok_or("there is memory")?;
-        let found = lines(alloc, &dead)?;
-        assert_eq!(rt; found.as_slice(), want, "at {size}");
-        assert_eq!(rt; kept.piece_count(), 3 - want.len(), "at {size}");
-        assert_eq!(rt; line_at(&kept, size), None, "at {size}");
-    }
-    Ok(())
-}
-
-// A number below this one, from a linear generator.
-fn pick(state: &mut u64, below: u64) -> u64
-    requires { 0 < below }
-    ensures { result < below }
-{
-    *state = state
-        .wrapping_mul(6_364_136_223_846_793_005)
-        .wrapping_add(1_442_695_040_888_963_407);
-    (*state >> 33) % below
-}
-
-// The lines of `old` that aren't in `new`, each once and in order; 0 is no line.
-fn gone(alloc: Global, old: &[u32], new: &[u32]) -> Result<Vec<u32>, Fail> {
-    let mut all = Vec::new(alloc);
-    for line in old {
-        if *line != 0 && !new.contains(line) && !all.contains(line) {
-            all.push(*line)?;
-        }
-    }
-    all.sort_unstable();
-    Ok(all)
-}
-
-// Puts a piece, or cuts, in fragments with holds and in a plain array of the lines that stand at
-// each place.
-fn change(
-    kept: &mut Kept,
-    marks: &mut Vec<u32>,
-    state: &mut u64,
-    line: u32,
-    dead: &mut Vec<MemHold>,
-) -> Result<(), Fail>
-    requires { AreHeld (λ _. true) (λ h. h.piece) (λ h. h.bytes) (held kept.old) }
-    ensures { AreHeld (λ _. true) (λ h. h.piece) (λ h. h.bytes) (held kept.new) }
-{
-    let at = pick(state, 200);
-    let len = 1 + pick(state, 60) as u32;
-    if line % 16 != 0 {
-        put(kept, at, len, line, dead)?;
-        for mark in marks.iter_mut().skip(at as usize).take(len as usize) {
-            *mark = line;
-        }
-        return Ok(());
-    }
-    if kept.cut(at, dead).is_err() {
-        return Err("there is memory".into());
-    }
-    for mark in marks.iter_mut().skip(at as usize) {
-        *mark = 0;
-    }
-    Ok(())
-}
-
-#[test]
-fn the_holds_of_a_plain_array_come_out(rt: HostRuntime) -> Result<(), Fail> {
-    let alloc = rt.alloc();
-    let mut empty = Vec::new(alloc);
-    let mut kept = held_of(alloc, 0, 1, &[], &mut empty)?;
-    let mut marks: Vec<u32> = vec![in alloc; 0; 260]?;
-    let mut state = 1;
-    for line in 1..2_000u32 {
-        let mut dead = Vec::new(alloc);
-        let old = marks.clone()?;
-        change(&mut kept, &mut marks, &mut state, line, &mut dead)?;
-        let want = gone(alloc, &old, &marks)?;
-        let found = lines(alloc, &dead)?;
-        assert_eq!(rt; found.as_slice(), want.as_slice(), "line {line}");
-    }
-    Ok(())
-}
-
-#[test]
-fn a_hold_that_is_lent_is_changed(rt: HostRuntime) -> Result<(), Fail> {
-    let alloc = rt.alloc();
-    let mut dead = Vec::new(alloc);
-    let mut kept: Kept = HeldSpans::new(alloc);
-    let p = piece(1);
-    let f = Frag {
-        at: 0,
-        len: 5,
-        piece: p,
-        from: 0,
-    };
-    kept.put(f, MemHold::new(p, 5, Some(3)), &mut dead)
-        .ok()
-        .ok_or("there is memory")?;
-    let hold = kept.hold_of(p).ok_or("the piece is there")?;
-    let pin = hold.pin(1).ok().ok_or("there is room")?;
-    assert_eq!(rt; pin.piece(), p);
-    let hold = kept.hold_of(p).ok_or("the piece is there")?;
-    assert!(rt; hold.pin(1).is_err(), "two were taken of its room");
-    assert!(rt; hold.pin(0).is_ok(), "one is left");
-    assert!(rt; kept.hold_of(piece(2)).is_none());
+    assert!(rt; one.hold(piece(3)).is_none(), "none is left");
     Ok(())
 }

@@ -1,6 +1,0 @@
-pub mod Names
-pub mod Kept
-pub mod Calls
-pub mod Commits
-pub mod Journals
-pub mod Lookups
