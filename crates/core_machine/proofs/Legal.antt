@@ -17,3 +17,4 @@ pub mod First
 pub mod Reached
 pub mod NoSpace
 pub mod Runs
+pub mod AnswersStand

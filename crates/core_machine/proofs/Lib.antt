@@ -9,6 +9,7 @@ pub mod Five
 pub mod TwoClients
 pub mod SlotCases
 pub mod TurnCases
+mod OtherClients
 pub mod ReadRuns
 pub mod LastRuns
 pub mod NextParts

@@ -1,6 +1,6 @@
--- Whose turn it may be in a job of two clients with a barrier between their lines, worked out by hand.
-use Rattle.fs_types.proofs.Common.{◌≡◌, [], ◌∷◌, Some, None, refl}
-use Rattle.core_machine.specs.Vocabulary.{Places, next_in, going}
+-- Whose turn it may be in a job of two clients with a barrier between their lines, worked out by hand; and phases that don't begin.
+use Rattle.fs_types.proofs.Common.{◌≡◌, ◌≤◌, [], ◌∷◌, Some, None, refl, arith, recursion_from_All}
+use Rattle.core_machine.specs.Vocabulary.{Places, IsLeast, next_in, going}
 use Rattle.core_machine.proofs.TwoClients.{two_clients}
 
 -- client 1 has a line, which is of a later phase
@@ -36,3 +36,10 @@ none_left_to_first = refl
 
 none_left_to_second : next_in end 1 ≡ None
 none_left_to_second = refl
+
+-- where the next lines are of phases 5 and 2, phase 5 doesn't begin, nor does the one after phase 2
+not_the_latest : IsLeast (5 ∷ 2 ∷ []) 5 → ⊥
+not_the_latest is = let low = (recursion_from_All (λ x. 5 ≤ x) (5 ∷ 2 ∷ []) is.least).1.0 in omega (arith, low)
+
+not_the_one_after : IsLeast (5 ∷ 2 ∷ []) 3 → ⊥
+not_the_one_after is = let low = (recursion_from_All (λ x. 3 ≤ x) (5 ∷ 2 ∷ []) is.least).1.0 in omega (arith, low)

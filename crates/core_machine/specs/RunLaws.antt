@@ -88,3 +88,8 @@ pub record WasGiven (s : Job) (m : Moment) (turns : List Turn) (k : ℕ) (a : An
 abbrev pub AnswersWereGiven : Type 0
 AnswersWereGiven = (s : Job) (m n : Moment) (turns : List Turn) (k : ℕ) (a : Answer)
     → IsFirst s m → Reaches m turns n → printed n k ≡ Some a → WasGiven s m turns k a
+
+-- and each that came so stands at the moment that the run comes to
+abbrev pub GivenAnswersStand : Type 0
+GivenAnswersStand = (s : Job) (m n : Moment) (turns : List Turn) (k : ℕ) (a : Answer)
+    → CanRun s → IsFirst s m → Reaches m turns n → WasGiven s m turns k a → printed n k ≡ Some a

@@ -2,7 +2,7 @@
 
 ghost use Rattle.core_machine.specs.RunLaws.{RunsAreLegal, LogsHoldExactly};
 ghost use Rattle.core_machine.specs.RunLaws.{FreeIsWhatIsLeft, HeldIsExact};
-ghost use Rattle.core_machine.specs.RunLaws.{NoSpaceIsExact, AnswersWereGiven};
+ghost use Rattle.core_machine.specs.RunLaws.{NoSpaceIsExact, AnswersWereGiven, GivenAnswersStand};
 
 /// What a run reports when no client has an event left is legal.
 pub fn runs_are_legal()
@@ -33,7 +33,8 @@ pub fn no_space_is_exact()
 {}
 
 /// Each answer that stands at a moment of a run was given by the event of its line, when its client
-/// had its turn.
+/// had its turn; and each that was given so stands from then on.
 pub fn answers_were_given()
-    ensures { AnswersWereGiven }
+    ensures given { AnswersWereGiven }
+    ensures stand { GivenAnswersStand }
 {}

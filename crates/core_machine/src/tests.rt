@@ -220,6 +220,34 @@ barrier
     slots: &[(1, 0), (0, 1), (0, 1)],
 };
 
+// A read of three runs, of which the first and the last are of one piece, fetches three times and
+// pins each of the two pieces once.
+const THREE_FETCHES: Case = Case {
+    script: b"unifyfs 1 servers=1 clients=1 chunk=64 shmem=3 spill=0
+0 create /unifyfs/a
+0 write /unifyfs/a 0 t:abc
+0 write /unifyfs/a 1 t:X
+0 sync /unifyfs/a
+0 read /unifyfs/a 0 3
+",
+    events: &[
+        (0, [0, 0, 0]),
+        (0, [1, 0, 0]),
+        (0, [1, 1, 0]),
+        (0, [1, 1, 0]),
+        // The look-up, the fetches, and the finish.
+        (0, [2, 2, 0]),
+        (0, [2, 2, 0]),
+        (0, [2, 2, 0]),
+        (0, [2, 2, 0]),
+        (0, [1, 1, 0]),
+    ],
+    answers: &[(4, Said::Wrote(1)), (6, Said::Shown(2, *b"aXc"))],
+    journal: &[2, 5],
+    md5: *b"\xff\x93\x27\x98\xe2\x90\xe9\x8d\x8c\x67\xde\x64\x7d\xbf\x35\x3f",
+    slots: &[(2, 1)],
+};
+
 // Whether a file has so many bytes, of this digest.
 fn is_of(file: &FileState, len: u64, digest: &[u8; 16]) -> bool {
     match file {
@@ -231,7 +259,7 @@ fn is_of(file: &FileState, len: u64, digest: &[u8; 16]) -> bool {
 #[test]
 fn a_piece_has_its_slot_until_the_last_read_of_it_ends(rt: HostRuntime) -> Result<(), Fail> {
     let alloc = rt.alloc();
-    for case in &[OVERWRITTEN, FULL, TWO_READERS] {
+    for case in &[OVERWRITTEN, FULL, TWO_READERS, THREE_FETCHES] {
         let script = script_of(alloc, case.script)?;
         let mut core = core_of(alloc, &script)?;
         let as_said = events_as_said(&mut core, case.events)?;

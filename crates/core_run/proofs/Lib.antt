@@ -6,4 +6,5 @@ mod PickLemmas
 mod PickCases
 mod ExactSlots
 pub mod NoSpaceReports
+mod PickedTurns
 mod SlotCounts

@@ -14,7 +14,7 @@ at_end : (m : Moment) (pick : ℕ) → ready m ≡ [] → after_turn_of m (picke
 at_end m pick ended = ap (λ clients. after_turn_of m (picked pick clients)) ended
 
 -- so it stays from its end on
-stays : (picks : List ℕ) (m : Moment) (k n : ℕ) → ready (moment_after picks m k) ≡ [] → k ≤ n
+pub stays : (picks : List ℕ) (m : Moment) (k n : ℕ) → ready (moment_after picks m k) ≡ [] → k ≤ n
     → moment_after picks m n ≡ moment_after picks m k
 stays picks m k zero ended within = let none : zero ≡ k = omega arith in ap (moment_after picks m) none
 stays picks m k (suc n) ended within = elim (eq-or-lt_of_le within) [

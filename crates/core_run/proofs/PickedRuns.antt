@@ -1,6 +1,6 @@
 -- Runs that go on by one event, and the journals that they leave.
 use Rattle.std.proofs.Common.{◌≡◌, ℕ, zero, suc, ◌%◌, false, cond, List, [], ◌∷◌, ◌++◌, length, map, Option, Some, None}
-use Rattle.std.proofs.Common.{refl, sym, ap, subst, ◌∙◌, arith}
+use Rattle.std.proofs.Common.{refl, sym, ap, subst, ◌∙◌, arith, append-nil}
 use Rattle.std.specs.List.{slice_get, Contains}
 use Rattle.std.specs.Str.{bytes_eq}
 use Rattle.std.proofs.lemmas.Option.{same_Some, slice_get_within, get_or_from_slice_get}
@@ -15,7 +15,7 @@ use Rattle.core_machine.specs.LegalSoFar.{HasClients, CanRun, Reaches}
 use Rattle.core_machine.specs.RunLaws.{RunsAreLegal}
 use Rattle.core_machine.specs.MomentReport.{report_of}
 use Rattle.core_machine.proofs.Legal.Reached.{Reaches-job, Reaches-unspent}
-use Rattle.core_run.specs.PickedRun.{pick_at, picked, after_turn_of, moment_after, IsRunUnder, IsReportUnder}
+use Rattle.core_run.specs.PickedRun.{after_turn_of, chosen, moment_after, pick_at, turn_of, turns_under, IsRunUnder, IsReportUnder}
 
 -- a run and one more turn
 pub Reaches-push : (m n : Moment) (turns : List Turn) (t : Turn) → Reaches m turns n → Contains (ready n) t.client → Reaches m (turns
@@ -31,21 +31,24 @@ HasClients-job s job n o is = (IsOpLine-from_job s n o job is).rank
 pub CanRun-job : (s : Job) → IsJob s → CanRun s
 CanRun-job s job = record { clients = HasClients-job s job; chunk = omega (arith, job.shape.chunk_least) }
 
--- a run and one more turn, if a client has it
-Reaches-turn : (m n : Moment) (o : Option ℕ) (i : ℕ) → slice_get (ready n) i ≡ o
-    → (turns : List Turn) × Reaches m turns n → (turns : List Turn) × Reaches m turns (after_turn_of n o)
-Reaches-turn m n None i at run = run
-Reaches-turn m n (Some r) i at run =
-    let waits : Contains (ready n) r = (i, slice_get_within (ready n) i r at, get_or_from_slice_get (ready n) i r r at) in
-    let t : Turn = record { client = r } in (run.0 ++ t ∷ [], Reaches-push m n run.0 t run.1 waits)
+-- a client that a pick chooses is ready
+pub ready-chosen : (picks : List ℕ) (k r : ℕ) (m : Moment) → chosen picks k m ≡ Some r → Contains (ready m) r
+ready-chosen picks k r m is =
+    let i = pick_at picks k % length (ready m) in
+    (i, slice_get_within (ready m) i r is, get_or_from_slice_get (ready m) i r r is)
 
--- what a run under picks comes to is reached by some turns
-pub Reaches-moment_after : (picks : List ℕ) (m : Moment) (k : ℕ) → (turns : List Turn) × Reaches m turns (moment_after picks m k)
-Reaches-moment_after picks m zero = ([], refl)
+-- a run and one more turn, if a client has it
+Reaches-turn : (m n : Moment) (turns : List Turn) (o : Option ℕ) → ((r : ℕ) → o ≡ Some r → Contains (ready n) r)
+    → Reaches m turns n → Reaches m (turns ++ turn_of o) (after_turn_of n o)
+Reaches-turn m n turns None waits run = subst (λ ts. Reaches m ts n) (sym (append-nil turns)) run
+Reaches-turn m n turns (Some r) waits run = Reaches-push m n turns (record { client = r }) run (waits r refl)
+
+-- what a run under picks comes to is reached by the turns that these choose
+pub Reaches-moment_after : (picks : List ℕ) (m : Moment) (k : ℕ) → Reaches m (turns_under picks m k) (moment_after picks m k)
+Reaches-moment_after picks m zero = refl
 Reaches-moment_after picks m (suc k) =
     let n = moment_after picks m k in
-    let pick = pick_at picks k in
-    Reaches-turn m n (picked pick (ready n)) (pick % length (ready n)) refl (Reaches-moment_after picks m k)
+    Reaches-turn m n (turns_under picks m k) (chosen picks k n) (λ r. ready-chosen picks k r n) (Reaches-moment_after picks m k)
 
 -- so there are turns by which a run under picks comes to its end
 pub record IsReached (m n : Moment) : Type 0 where
@@ -56,13 +59,13 @@ pub record IsReached (m n : Moment) : Type 0 where
 
 pub IsReached-run : {picks : List ℕ} {s : Job} {m n : Moment} → IsFirst s m → IsRunUnder picks m n → IsReached m n
 IsReached-run {picks = picks} {m = m} {n = n} first run =
-    let turns = Reaches-moment_after picks m run.events in
-    let reaches = subst (λ (x : Moment). Reaches m turns.0 x) (sym run.goes) turns.1 in
+    let turns = turns_under picks m run.events in
+    let reaches = subst (λ (x : Moment). Reaches m turns x) (sym run.goes) (Reaches-moment_after picks m run.events) in
     record {
-      turns = turns.0;
+      turns = turns;
       reaches = reaches;
-      unspent = Reaches-unspent m n turns.0 reaches first.spent;
-      job = Reaches-job m n turns.0 reaches;
+      unspent = Reaches-unspent m n turns reaches first.spent;
+      job = Reaches-job m n turns reaches;
     }
 
 -- and its report is legal

@@ -1,23 +1,68 @@
 -- How often each slot is held at each moment of a job of two clients under picks, worked out by hand: the second client's read
 -- looks up what it shows before the first client writes over it, and fetches it afterwards.
-use Rattle.std.proofs.Common.{◌≡◌, [], ◌∷◌, List, ℕ, Option, None, false, map, refl}
-use Rattle.fs_script.specs.Vocabulary.{Piece}
+use Rattle.std.proofs.Common.{◌≡◌, [], ◌∷◌, List, ℕ, zero, suc, Option, Some, None, false, map, refl, sym, ap, subst, ◌∙◌, arith, Contains}
+use Rattle.std.proofs.lemmas.Option.{same_Some}
+use Rattle.fs_types.proofs.Common.{none-some}
+use Rattle.fs_script.specs.declared.line.OpLine.{OpLine}
+use Rattle.fs_script.specs.Vocabulary.{ArePaths, Job, Piece, op_at}
 use Rattle.fs_script.proofs.CallerLemmas.{path_a}
-use Rattle.core_machine.specs.Moment.{Moment, fresh_client, ready}
+use Rattle.core_machine.specs.Moment.{IsFirst, Moment, fresh_client, ready}
 use Rattle.core_machine.proofs.SlotCases.Jobs.{holds, job_with, writes_bar}
 use Rattle.core_run.specs.PickedRun.{moment_after}
 
 abbrev three_free : List (Option Piece)
 three_free = None ∷ None ∷ None ∷ []
 
+abbrev job : Job
+job = job_with 3 (writes_bar ∷ [])
+
 abbrev start : Moment
 start = record {
-  job = job_with 3 (writes_bar ∷ []);
+  job = job;
   clients = fresh_client ∷ fresh_client ∷ [];
   answers = [];
   journals = (path_a, []) ∷ [];
   logs = three_free ∷ three_free ∷ [];
   spent = false;
+}
+
+-- every operation is on the one path
+on_a_path : (n : ℕ) (o : OpLine) → op_at job n ≡ Some o → o.path ≡ path_a
+on_a_path zero o is = absurd (none-some o is)
+on_a_path (suc zero) o is = absurd (none-some o is)
+on_a_path (suc (suc zero)) o is = ap (λ (x : OpLine). x.path) (sym (same_Some _ o is))
+on_a_path (suc (suc (suc zero))) o is = ap (λ (x : OpLine). x.path) (sym (same_Some _ o is))
+on_a_path (suc (suc (suc (suc zero)))) o is = ap (λ (x : OpLine). x.path) (sym (same_Some _ o is))
+on_a_path (suc (suc (suc (suc (suc zero))))) o is = absurd (none-some o is)
+on_a_path (suc (suc (suc (suc (suc (suc zero)))))) o is = ap (λ (x : OpLine). x.path) (sym (same_Some _ o is))
+on_a_path (suc (suc (suc (suc (suc (suc (suc zero))))))) o is = ap (λ (x : OpLine). x.path) (sym (same_Some _ o is))
+on_a_path (suc (suc (suc (suc (suc (suc (suc (suc zero)))))))) o is = ap (λ (x : OpLine). x.path) (sym (same_Some _ o is))
+on_a_path (suc (suc (suc (suc (suc (suc (suc (suc (suc zero))))))))) o is = ap (λ (x : OpLine). x.path) (sym (same_Some _ o is))
+on_a_path (suc (suc (suc (suc (suc (suc (suc (suc (suc (suc zero)))))))))) o is = ap (λ (x : OpLine). x.path) (sym (same_Some _ o is))
+on_a_path (suc (suc (suc (suc (suc (suc (suc (suc (suc (suc (suc n))))))))))) o is = absurd (none-some o is)
+
+one_path : (p : List ℕ) → Contains (path_a ∷ []) p → p ≡ path_a
+one_path p (zero, within, is) = sym is
+one_path p (suc k, within, is) = absurd (omega arith)
+
+paths : ArePaths job (path_a ∷ [])
+paths = record {
+  rising = (tt, tt);
+  named = λ p has. record { line = 2; op = _; is = refl; on = sym (one_path p has) };
+  each = λ p names.
+      subst (Contains (path_a ∷ [])) (sym (on_a_path names.line names.op names.is) ∙ names.on) (0, omega arith, refl);
+}
+
+-- the run begins so
+starts : IsFirst job start
+starts = record {
+  job = refl;
+  clients = refl;
+  answers = refl;
+  paths = paths;
+  journals = (refl, tt);
+  logs = refl;
+  spent = refl;
 }
 
 abbrev picks : List ℕ

@@ -1,10 +1,10 @@
 -- The run of a job under picks: whose turn each event is, the moments that the run comes to, and its report.
-use Rattle.std.specs.Prelude.{◌≡◌, ℕ, zero, suc, ◌%◌, List, [], length, unwrap_or, Option, Some, None}
+use Rattle.std.specs.Prelude.{◌≡◌, ℕ, zero, suc, ◌%◌, List, [], ◌∷◌, ◌++◌, length, unwrap_or, Option, Some, None}
 use Rattle.std.specs.List.{slice_get}
 use Rattle.fs_script.specs.Job.{Job}
 use Rattle.fs_script.specs.Report.{Report}
 use Rattle.core_machine.specs.Moment.{Moment, IsFirst, ready}
-use Rattle.core_machine.specs.Step.{step}
+use Rattle.core_machine.specs.Step.{Turn, step}
 use Rattle.core_machine.specs.MomentReport.{report_of}
 
 -- the pick of event k, from 0 on: the picks go round, and where there are none it is 0
@@ -25,6 +25,20 @@ abbrev pub moment_after : List ℕ → Moment → ℕ → Moment
 moment_after picks m zero = m
 moment_after picks m (suc k) =
     let now = moment_after picks m k in after_turn_of now (picked (pick_at picks k) (ready now))
+
+-- the client that the pick of event k chooses of those that are ready at a moment
+abbrev pub chosen : List ℕ → ℕ → Moment → Option ℕ
+chosen picks k m = picked (pick_at picks k) (ready m)
+
+-- the turn of a client, if there is one
+abbrev pub turn_of : Option ℕ → List Turn
+turn_of None = []
+turn_of (Some r) = record { client = r } ∷ []
+
+-- the turns of the first k events of the run that begins at m, as the picks choose
+abbrev pub turns_under : List ℕ → Moment → ℕ → List Turn
+turns_under picks m zero = []
+turns_under picks m (suc k) = turns_under picks m k ++ turn_of (chosen picks k (moment_after picks m k))
 
 -- the run that begins at m comes to n under these picks, and ends there: no client is ready any more
 pub record IsRunUnder (picks : List ℕ) (m n : Moment) : Type 0 where

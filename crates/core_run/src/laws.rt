@@ -2,7 +2,7 @@
 
 ghost use Rattle.core_run.specs.RunUnderLaws.{OneFirstMoment, OneReportUnder};
 ghost use Rattle.core_run.specs.RunUnderLaws.{MomentsAreReached, JobsCanRun};
-ghost use Rattle.core_run.specs.RunUnderLaws.{ReportedNoSpaceWasTrue};
+ghost use Rattle.core_run.specs.RunUnderLaws.{ReportsWhatWasAnswered, ReportedNoSpaceWasTrue};
 
 use core_machine::{answers_were_given, no_space_is_exact};
 
@@ -12,12 +12,21 @@ pub fn one_report_under()
     ensures report { OneReportUnder }
 {}
 
-/// A job within the limits can be run, and each moment of its run under picks is one that the
-/// machine reaches.
+/// A job within the limits can be run, and the machine reaches each moment of its run under picks,
+/// by the turns that these choose.
 pub fn runs_under_picks_are_reached()
     ensures moments { MomentsAreReached }
     ensures jobs { JobsCanRun }
 {}
+
+/// The report of a run under picks has an answer to a line exactly where the picks chose the line's
+/// client when the line was its next one, and the event was answered so.
+pub fn reports_say_what_was_answered()
+    ensures { ReportsWhatWasAnswered }
+{
+    answers_were_given();
+    runs_under_picks_are_reached();
+}
 
 /// Where the report of a run under picks says of a line that there was no space, the line was a
 /// write that nothing else refused, and at its event fewer slots were left than it needed.
@@ -25,6 +34,6 @@ pub fn reported_no_space_was_true()
     ensures { ReportedNoSpaceWasTrue }
 {
     no_space_is_exact();
-    answers_were_given();
+    reports_say_what_was_answered();
     runs_under_picks_are_reached();
 }

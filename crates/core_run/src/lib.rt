@@ -8,6 +8,9 @@ mod picks;
 mod run;
 
 pub use fault::RunFault;
-pub use laws::{one_report_under, reported_no_space_was_true, runs_under_picks_are_reached};
+pub use laws::{
+    one_report_under, reported_no_space_was_true, reports_say_what_was_answered,
+    runs_under_picks_are_reached,
+};
 pub use picks::{MULTIPLIER, PICK_COUNT, picks_of};
 pub use run::simulate;

@@ -31,10 +31,10 @@ module _ {s : Job} {m : Moment} (n : Moment) (turns : List Turn) (can : CanRun s
   begins : (told : List ℕ) → IsLegalMoment told m
   begins told = first-legal (subst CanRun (sym first.job) can) (subst (λ j. IsFirst j m) (sym first.job) first) told
 
-  of_job : n.job ≡ s
+  pub of_job : n.job ≡ s
   of_job = (run-legal m n turns (begins []) run).0 ∙ first.job
 
-  reached-legal : (told : List ℕ) → IsLegalMoment told n
+  pub reached-legal : (told : List ℕ) → IsLegalMoment told n
   reached-legal told = (run-legal m n turns (begins told) run).1
 
 -- at none did memory run out
