@@ -53,7 +53,7 @@ pub fn fetch_all<D: SpillDev + Drop>(
     ensures logs { logs.new ≡ logs.old }
 {
     for run in runs {
-        let Some(hold) = file.held.hold_of(run.piece) else {
+        let Some(hold) = file.held.get(run.piece) else {
             unreachable!()
         };
         fetch_run(logs, hold, run, bytes);

@@ -56,7 +56,9 @@ fn put_parts(
             piece: hold.piece,
             from: 0,
         };
-        spans.put(part, *hold, dead)?;
+        if let Err((want, _)) = spans.put(part, *hold, dead) {
+            return Err(want);
+        }
         at += chunk;
     }
     Ok(())
@@ -115,6 +117,7 @@ impl Pending {
     /// Forgets all of it. The holds go to the end of `dead`. After want of memory what is kept is
     /// open.
     pub fn clear(&mut self, dead: &mut Vec<PlainHold>) -> Result<(), Want>
+        requires are_held { AreHeldPlain (held self.old.held) }
         ensures none { OnOk result (IsNonePending self.new) }
         ensures dead { OnOk result (HandsOver (λ h. h.piece)
             (held self.old.held) (held self.new.held) dead.old.items dead.new.items) }

@@ -4,7 +4,7 @@ ghost use Rattle.std.specs.Prelude.{◌≡◌, ◌<◌, ◌-◌, ◌^◌, ℕ, t
 ghost use Rattle.fs_types.specs.Fragments.{fragment_count};
 ghost use Rattle.fs_types.specs.Pieces.{Piece};
 ghost use Rattle.piece_table.specs.HeldSpans.{is_named};
-ghost use Rattle.piece_table.specs.PieceTable.{hold_of, number_of};
+ghost use Rattle.piece_table.specs.PieceTable.{AreTheirs, hold_of, number_of};
 ghost use Rattle.core_machine.specs.Logs.{AreHeldSlots, AreInOneSlot, IsHeld, slot_in};
 ghost use Rattle.core_machine.specs.Pins.{ArePins, HaveSlots, LetsGoOnce, PinsOnce, no_count, pin_count};
 ghost use Rattle.core_machine.specs.Settling.{Settles};
@@ -29,6 +29,7 @@ fn pin_once<D: SpillDev + Drop>(
     requires same { is_some (hold_of pins.old piece) ≡ true
         → hold_of pins.old piece ≡ hold_of file.now.held.pieces piece }
     requires counted { is_some (hold_of pins.old piece) ≡ true → 0 < number_of pins.old piece }
+    requires theirs { AreTheirs (λ h. h.piece) (hold_of file.now.held.pieces) }
     requires number { number_of pins.old piece < 2 ^ 64 - 1 }
     requires held { hold_of pins.old piece ≡ None → IfSome (hold_of file.now.held.pieces piece)
         (IsHeld logs.old) }
@@ -37,11 +38,11 @@ fn pin_once<D: SpillDev + Drop>(
     ensures { OnOk result
         (PinsOnce (hold_of file.now.held.pieces) piece pins.old pins.new logs.old logs.new) }
 {
-    if pins.hold(piece).is_some() {
+    if pins.get(piece).is_some() {
         pins.more(piece);
         return Ok(());
     }
-    let Some(hold) = file.held.hold_of(piece) else {
+    let Some(hold) = file.held.get(piece) else {
         unreachable!()
     };
     let hold = *hold;
@@ -60,6 +61,7 @@ pub fn pin_runs<D: SpillDev + Drop>(
     logs: &mut [PlainLog<D>],
 ) -> Result<PieceTable<PlainHold>, Want>
     requires named { All (λ f. IsSome (hold_of file.now.held.pieces f.piece)) runs.now }
+    requires theirs { AreTheirs (λ h. h.piece) (hold_of file.now.held.pieces) }
     requires slots { HaveSlots logs.old (hold_of file.now.held.pieces) }
     requires once { AreInOneSlot logs.old }
     requires held { AreHeldSlots logs.old }

@@ -1,5 +1,6 @@
 -- Fragments that were all put over others with their holds, and fragments that were all dropped.
-use Rattle.fs_types.proofs.Common.{◌≡◌, ℕ, ◌+◌, Bool, true, false, cond, List, [], ◌∷◌, Option, Some, None, is_some, refl, sym, ap, ◌∙◌, subst, arith}
+use Rattle.fs_types.proofs.Common.{◌≡◌, ℕ, Bool, true, false, cond, List, [], ◌∷◌, Option, Some, None, IsTrue, is_some, refl, sym, ap, ◌∙◌}
+use Rattle.fs_types.proofs.Common.{subst, arith}
 use Rattle.fs_types.proofs.Common.{All, All-nil, get_or, none-some, ◌++◌, cases_Bool, inl, inr, cond-true, cond-false, true≢false, false≢true}
 use Rattle.std.specs.Map.{lookup}
 use Rattle.std.specs.Option.{option_or}
@@ -7,10 +8,12 @@ use Rattle.fs_types.specs.Fragments.{fragment_count, piece_eq}
 use Rattle.fs_types.specs.Pieces.{Piece, Fragment}
 use Rattle.span_list.specs.Spans.{AreSpans, cut_fragments}
 use Rattle.span_list.proofs.CallerLemmas.{at_rest_before}
-use Rattle.piece_table.specs.HeldSpans.{HandsOver, IsKept, Kept, LiesIn, PutsAll, held, is_named, kept, put_fragments}
-use Rattle.piece_table.specs.PieceTable.{AreCounted, Pieces, number_in, number_of, hold_in, hold_of}
+use Rattle.piece_table.specs.HeldSpans.{AreHeld, HandsOver, Held, Kept, LiesIn, PutsAll, held, is_named, kept, put_fragments}
+use Rattle.piece_table.specs.PieceTable.{AreReady, AreTheirs, Pieces, number_in, number_of, hold_in, hold_of}
 use Rattle.piece_table.specs.Thinning.{Thins, ComesOut}
-use Rattle.piece_table.proofs.Holds.{HaveHolds, HaveHolds-kept, HaveHolds-more, HaveHolds-puts, hold_laid, IsKept-laid, HandsOver-laid}
+use Rattle.piece_table.proofs.Holds.{IsKept, HaveHolds, HaveHolds-held, HaveHolds-kept, HaveHolds-more, HaveHolds-puts, hold_laid}
+use Rattle.piece_table.proofs.Holds.{IsKept-laid, HandsOver-laid}
+use Rattle.piece_table.proofs.Counts.{none_named}
 use Rattle.piece_table.proofs.Places.{named_put}
 
 -- one of two, where the first is there, or isn't
@@ -26,25 +29,48 @@ or_other : {X : Type 0} (a b : Option X) → (is_some a ≡ true → b ≡ None)
 or_other None b apart some = refl
 or_other (Some x) b apart some = absurd (false≢true (sym (ap is_some (apart refl)) ∙ some))
 
+nothing : {X : Type 0} (a : Option X) → is_some a ≡ false → a ≡ None
+nothing None none = refl
+nothing (Some x) none = absurd (true≢false none)
+
+-- what one of two is, is the first or the second
+either : {X : Type 0} (P : X → Type 0) (a b : Option X) → ((x : X) → a ≡ Some x → P x) → ((x : X) → b ≡ Some x → P x)
+    → (x : X) → option_or a b ≡ Some x → P x
+either P None b first second x is = second x is
+either P (Some y) b first second x is = first x is
+
 module _ {H : Type 0} (is_ready : H → Bool) (piece_of : H → Piece) (byte_count : H → ℕ)
-    (old over : Kept H) (is_kept : IsKept is_ready piece_of byte_count old) (over_kept : IsKept is_ready piece_of byte_count over)
-    (apart : (q : Piece) → is_some (hold_of over.pieces q) ≡ true → hold_of old.pieces q ≡ None)
-    (merged : Pieces H) (numbers : (q : Piece) → number_of merged q ≡ number_of old.pieces q + number_of over.pieces q)
-    (holds : (q : Piece) → hold_of merged q ≡ option_or (hold_of over.pieces q) (hold_of old.pieces q)) where
-  -- each fragment of both is counted
-  pub merged_counts : (q : Piece) → number_of merged q ≡ fragment_count q old.fragments + fragment_count q over.fragments
-  merged_counts q = omega (arith, numbers q, is_kept.numbers q, over_kept.numbers q)
+    (old : Kept H) (over : Held H) (is_kept : IsKept is_ready piece_of byte_count old) (over_held : AreHeld is_ready piece_of byte_count over)
+    (apart : (q : Piece) → is_some (over.hold_of q) ≡ true → hold_of old.pieces q ≡ None)
+    (merged : Pieces H) (holds : (q : Piece) → hold_of merged q ≡ option_or (over.hold_of q) (hold_of old.pieces q)) where
+  merged_ready : AreReady is_ready (hold_of merged)
+  merged_ready q h is =
+      either (λ x. IsTrue (is_ready x)) (over.hold_of q) (hold_of old.pieces q) (over_held.ready q) (is_kept.are_held.ready q) h
+      (sym (holds q) ∙ is)
+
+  -- each hold is of its piece once those of both are there
+  pub merged_theirs : AreTheirs piece_of (hold_of merged)
+  merged_theirs q h is =
+      either (λ x. piece_of x ≡ q) (over.hold_of q) (hold_of old.pieces q) (over_held.piece q) (is_kept.are_held.piece q) h
+      (sym (holds q) ∙ is)
+
+  -- a piece that no fragment of either names has no hold
+  pub merged_unheld : (q : Piece) → fragment_count q old.fragments ≡ 0 → fragment_count q over.fragments ≡ 0 → hold_of merged q ≡ None
+  merged_unheld q none over_none =
+      holds q
+      ∙ or_none (over.hold_of q) (hold_of old.pieces q) (over_held.named q ∙ none_named q over.fragments over_none)
+      ∙ nothing (hold_of old.pieces q) (is_kept.are_held.named q ∙ none_named q old.fragments none)
 
   have_merged : HaveHolds byte_count (hold_of merged) (put_fragments over.fragments old.fragments)
   have_merged = HaveHolds-puts byte_count (hold_of merged) over.fragments old.fragments
       (HaveHolds-more byte_count (hold_of old.pieces) (hold_of merged) old.fragments
       (HaveHolds-kept byte_count is_ready piece_of old is_kept)
-      (λ q some. holds q ∙ or_other (hold_of over.pieces q) (hold_of old.pieces q) (apart q) some))
-      (HaveHolds-more byte_count (hold_of over.pieces) (hold_of merged) over.fragments
-      (HaveHolds-kept byte_count is_ready piece_of over over_kept)
-      (λ q some. holds q ∙ or_some (hold_of over.pieces q) (hold_of old.pieces q) some))
+      (λ q some. holds q ∙ or_other (over.hold_of q) (hold_of old.pieces q) (apart q) some))
+      (HaveHolds-more byte_count over.hold_of (hold_of merged) over.fragments
+      (HaveHolds-held byte_count is_ready piece_of over over_held)
+      (λ q some. holds q ∙ or_some (over.hold_of q) (hold_of old.pieces q) some))
 
-  module _ (counted : AreCounted is_ready piece_of merged.entries) (laid : Pieces H) (fs : List Fragment)
+  module _ (laid : Pieces H) (fs : List Fragment)
       (put : fs ≡ put_fragments over.fragments old.fragments) (laid_numbers : (q : Piece) → number_of laid q ≡ fragment_count q fs)
       (thins : Thins merged laid) where
     have : HaveHolds byte_count (hold_of merged) fs
@@ -52,32 +78,32 @@ module _ {H : Type 0} (is_ready : H → Bool) (piece_of : H → Piece) (byte_cou
 
     named_still : (q : Piece) → is_named over.fragments q ≡ true → is_named fs q ≡ true
     named_still q named =
-        subst (λ us. is_named us q ≡ true) (sym put) (named_put q over.fragments old.fragments over_kept.are_held.spans named)
+        subst (λ us. is_named us q ≡ true) (sym put) (named_put q over.fragments old.fragments over_held.spans named)
 
     pub IsKept-put_all : IsKept is_ready piece_of byte_count (kept fs laid)
-    IsKept-put_all = IsKept-laid byte_count is_ready piece_of merged laid fs have counted laid_numbers thins
+    IsKept-put_all = IsKept-laid byte_count is_ready piece_of merged laid fs have merged_ready merged_theirs laid_numbers thins
 
-    pub PutsAll-laid : PutsAll (held over) (held old) (held (kept fs laid))
+    pub PutsAll-laid : PutsAll over (held old) (held (kept fs laid))
     PutsAll-laid = record {
       fragments = put;
-      holds = λ q. hold_laid byte_count is_ready piece_of merged laid fs have counted laid_numbers thins q
+      holds = λ q. hold_laid byte_count is_ready piece_of merged laid fs have merged_ready merged_theirs laid_numbers thins q
           ∙ elim (cases_Bool (is_named over.fragments q)) [
             | inl named ↦ cond-true _ (hold_of merged q) None (named_still q named) ∙ holds q
-                ∙ or_some (hold_of over.pieces q) (hold_of old.pieces q) (over_kept.are_held.named q ∙ named)
-                ∙ sym (cond-true _ (hold_of over.pieces q) (cond (is_named fs q) (hold_of old.pieces q) None) named)
+                ∙ or_some (over.hold_of q) (hold_of old.pieces q) (over_held.named q ∙ named)
+                ∙ sym (cond-true _ (over.hold_of q) (cond (is_named fs q) (hold_of old.pieces q) None) named)
             | inr unnamed ↦
                 ap (λ o. cond (is_named fs q) o None)
-                (holds q ∙ or_none (hold_of over.pieces q) (hold_of old.pieces q) (over_kept.are_held.named q ∙ unnamed))
-                ∙ sym (cond-false _ (hold_of over.pieces q) (cond (is_named fs q) (hold_of old.pieces q) None) unnamed)
+                (holds q ∙ or_none (over.hold_of q) (hold_of old.pieces q) (over_held.named q ∙ unnamed))
+                ∙ sym (cond-false _ (over.hold_of q) (cond (is_named fs q) (hold_of old.pieces q) None) unnamed)
           ];
     }
 
     pub HandsOver-put_all : (dead after : List H) → ComesOut piece_of (hold_of merged) (hold_of laid) dead after
         → HandsOver piece_of (held old) (held (kept fs laid)) dead after
-    HandsOver-put_all = HandsOver-laid byte_count is_ready piece_of merged laid fs have counted laid_numbers thins old
+    HandsOver-put_all = HandsOver-laid byte_count is_ready piece_of merged laid fs have merged_ready merged_theirs laid_numbers thins old
         (λ q unnamed. elim (cases_Bool (is_named over.fragments q)) [
           | inl named ↦ absurd (true≢false (sym (named_still q named) ∙ unnamed))
-          | inr other ↦ holds q ∙ or_none (hold_of over.pieces q) (hold_of old.pieces q) (over_kept.are_held.named q ∙ other)
+          | inr other ↦ holds q ∙ or_none (over.hold_of q) (hold_of old.pieces q) (over_held.named q ∙ other)
         ])
 
 -- nothing is left of what is cut at the begin

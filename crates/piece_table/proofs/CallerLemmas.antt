@@ -7,3 +7,5 @@ pub use Rattle.piece_table.proofs.Counts.{named_some, some_named, named_none, Al
 pub use Rattle.piece_table.proofs.Places.{named_put}
 -- the comparison of pieces decides whether they are the same
 pub use Rattle.piece_table.proofs.Tables.{same_piece, piece_eq-itself, piece_eq-sym}
+-- what is kept once the loan of a hold has ended
+pub use Rattle.piece_table.proofs.Lent.{IsCounted-lent, AreHeld-lent}

@@ -1,6 +1,8 @@
 -- How many fragments name a piece, in what a range leaves of them.
-use Rattle.fs_types.proofs.Common.{◌≡◌, ℕ, ◌+◌, ◌<◌, ◌≤◌, Bool, true, false, cond, ltb, List, [], ◌∷◌, ◌++◌, All, All-head, All-tail, filter, flat_map}
-use Rattle.fs_types.proofs.Common.{arith, nat_tests, count_by-le-length, ◌||◌, lt-ltb, ltb-true, ltb-false, get_or, cases_Bool, inl, inr, ◌⊎◌, cond_both, cond-true, cond-false, sum_by-cons, refl, ap, sym, ◌∙◌}
+use Rattle.fs_types.proofs.Common.{◌≡◌, ℕ, ◌+◌, ◌<◌, ◌≤◌, Bool, true, false, cond, ltb, List, [], ◌∷◌, ◌++◌, All, All-head, All-tail}
+use Rattle.fs_types.proofs.Common.{filter, flat_map}
+use Rattle.fs_types.proofs.Common.{arith, nat_tests, count_by-le-length, ◌||◌, lt-ltb, ltb-true, ltb-false, get_or, cases_Bool, inl, inr}
+use Rattle.fs_types.proofs.Common.{◌⊎◌, cond_both, cond-true, cond-false, sum_by-cons, refl, ap, sym, ◌∙◌}
 use Rattle.std.proofs.Common.{⊎_elim}
 use Rattle.std.proofs.lemmas.List.Folds.{list_any_at}
 use Rattle.std.proofs.lemmas.List.Sums.{sum_by-append}
@@ -79,6 +81,27 @@ count_sides q at end (f ∷ fs) each below =
       count_sides q at end fs (All-tail IsSpan f fs each) below,
     )
 
+-- a fragment begins before a place, or lies whole from there on
+one_cut : (size : ℕ) (f : Fragment) (n : ℕ) → end_of f ≤ LONGEST_FILE
+    → cond (begins_from size f) 0 n + cond (is_covered size LONGEST_FILE f) n 0 ≡ n
+one_cut size f n in_file = grind (arith, nat_tests)
+
+-- what a cut leaves and what lies whole behind it are the fragments
+pub count-cut : (q : Piece) (size : ℕ) (fs : List Fragment) → All IsSpan fs
+    → fragment_count q (flat_map (rest_before size) fs) + fragment_count q (covered size LONGEST_FILE fs) ≡ fragment_count q fs
+count-cut q size [] each = refl
+count-cut q size (f ∷ fs) each =
+    let span : IsSpan f = All-head IsSpan f fs each in
+    omega (
+      arith,
+      count-append q (rest_before size f) (flat_map (rest_before size) fs),
+      count-before q size f,
+      count-filter q (is_covered size LONGEST_FILE) f fs,
+      count-cons q f fs,
+      one_cut size f (naming q f) span.in_file,
+      count-cut q size fs (All-tail IsSpan f fs each),
+    )
+
 -- those of a list that pass a test name a piece at most as often as all
 pub count-filter-le : (q : Piece) (p : Fragment → Bool) (fs : List Fragment) → fragment_count q (filter p fs) ≤ fragment_count q fs
 count-filter-le q p [] = omega arith
@@ -132,6 +155,9 @@ some_named q fs some = named_count q fs ∙ lt-ltb 0 (fragment_count q fs) some
 
 pub named_none : (q : Piece) (fs : List Fragment) → is_named fs q ≡ false → fragment_count q fs ≡ 0
 named_none q fs unnamed = let none = ltb-false 0 (fragment_count q fs) (sym (named_count q fs) ∙ unnamed) in omega arith
+
+pub none_named : (q : Piece) (fs : List Fragment) → fragment_count q fs ≡ 0 → is_named fs q ≡ false
+none_named q fs zero = named_count q fs ∙ ap (ltb 0) zero
 
 -- each fragment names its piece
 pub All-named : (fs : List Fragment) → All (λ f. is_named fs f.piece ≡ true) fs

@@ -1,7 +1,8 @@
 -- The fragments of a range: which one is found from a place on, and what lies whole behind it.
 use Rattle.std.specs.Prelude.{find}
 use Rattle.fs_types.proofs.Common.{◌≡◌, ℕ, ◌+◌, ◌<◌, ◌≤◌, List, [], ◌∷◌, All, All-head, All-tail, arith, refl, ap, sym, ◌∙◌, subst}
-use Rattle.fs_types.proofs.Common.{Option, Some, None, IfSome, nat_tests, cond_both, ltb-true, ltb-false, leb-true, length, same_Some, Bool, true, false, true≢false, false≢true, is_some, not, IsTrue, cond, All-weaker, lit≤, count_by-le-length}
+use Rattle.fs_types.proofs.Common.{Option, Some, None, IfSome, nat_tests, cond_both, ltb-true, ltb-false, leb-true, length, same_Some, Bool}
+use Rattle.fs_types.proofs.Common.{true, false, true≢false, false≢true, is_some, not, IsTrue, cond, All-weaker, lit≤, count_by-le-length}
 use Rattle.std.proofs.lemmas.List.Sums.{length-filter}
 use Rattle.std.proofs.lemmas.Bool.{leb-false}
 use Rattle.fs_types.specs.Fragments.{end_of}

@@ -1,20 +1,34 @@
 -- Fragments with a hold for each piece that they name: what a put keeps, and what is left once the others are out.
-use Rattle.fs_types.proofs.Common.{◌≡◌, ℕ, ◌<◌, Bool, true, false, cond, List, [], ◌∷◌, Option, None, is_some}
+use Rattle.fs_types.proofs.Common.{◌≡◌, ℕ, ◌<◌, ◌≤◌, Bool, true, false, cond, List, [], ◌∷◌, Option, None, is_some}
 use Rattle.fs_types.proofs.Common.{All, All-append, All-cons, All-weaker, All-head, All-tail, flat_map, sym, ap, ◌∙◌, arith}
 use Rattle.fs_types.proofs.Common.{cases_Bool, cases_lt, get_or, inl, inr, eq-eqb, ne_eqb, cond-true, cond-false}
-use Rattle.span_list.proofs.CallerLemmas.{AreSpans-put}
+use Rattle.span_list.proofs.CallerLemmas.{AreSpans-cut, AreSpans-put}
 use Rattle.span_list.proofs.CallerLemmas.{All-flat_map}
 use Rattle.span_list.proofs.CallerLemmas.{All-rest_before, All-rest_from}
 use Rattle.fs_types.specs.Fragments.{end_of, fragment_count}
 use Rattle.fs_types.specs.Pieces.{Piece, Fragment}
-use Rattle.span_list.specs.Spans.{IsSpan, AreSpans, rest_before, rest_from, put_fragment}
-use Rattle.piece_table.specs.HeldSpans.{HandsOver, IsKept, Kept, LiesIn, held, is_named, kept, put_fragments}
-use Rattle.piece_table.specs.PieceTable.{AreCounted, Pieces, number_of, hold_of}
+use Rattle.span_list.specs.Spans.{IsSpan, AreSpans, rest_before, rest_from, cut_fragments, put_fragment}
+use Rattle.piece_table.specs.HeldSpans.{AreHeld, HandsOver, Held, IsCounted, Kept, LiesIn, held, is_named, kept, kept_with, put_fragments}
+use Rattle.piece_table.specs.PieceTable.{AreReady, AreTheirs, Pieces, number_of, hold_of}
 use Rattle.piece_table.specs.Thinning.{Thins, ComesOut}
 use Rattle.piece_table.proofs.Counts.{All-named, count-cons, head_named, named_by_put, named_none, named_some, naming_one, some_named}
 use Rattle.piece_table.proofs.Covered.{AreSpans-head, AreSpans-tail}
 use Rattle.piece_table.proofs.Releases.{held_before}
-use Rattle.piece_table.proofs.Tables.{hold_facts, same_piece}
+use Rattle.piece_table.proofs.Tables.{same_piece}
+
+-- what is kept is held, and the table counts the fragments of each piece
+pub record IsKept {H : Type 0} (is_ready : H → Bool) (piece_of : H → Piece) (byte_count : H → ℕ) (x : Kept H) : Type 0 where
+  pub are_held : AreHeld is_ready piece_of byte_count (held x)
+  pub numbers : (q : Piece) → number_of x.pieces q ≡ fragment_count q x.fragments
+
+-- of this the rest is so whatever the holds are, and whatever room there is
+pub IsCounted-kept : {H : Type 0} (is_ready : H → Bool) (piece_of : H → Piece) (byte_count : H → ℕ) (x : Kept H)
+    → IsKept is_ready piece_of byte_count x → {spare : ℕ} → IsCounted (kept_with x.fragments spare x.pieces)
+IsCounted-kept is_ready piece_of byte_count x is = record {
+  spans = is.are_held.spans;
+  named = is.are_held.named;
+  numbers = is.numbers;
+}
 
 module _ {H : Type 0} (byte_count : H → ℕ) where
   -- each piece that the fragments name has a hold in which they lie
@@ -64,6 +78,16 @@ module _ {H : Type 0} (byte_count : H → ℕ) where
           within = All-tail (LiesIn byte_count hold) f over of_over.within;
         })
 
+    -- and a cut does
+    pub HaveHolds-cut : (size : ℕ) (fs : List Fragment) → HaveHolds hold fs
+        → ((q : Piece) → fragment_count q (cut_fragments size fs) ≤ fragment_count q fs) → HaveHolds hold (cut_fragments size fs)
+    HaveHolds-cut size fs have fewer = record {
+      spans = AreSpans-cut size fs have.spans;
+      named = λ q some. have.named q (omega (arith, some, fewer q));
+      within = All-flat_map (LiesIn byte_count hold) (rest_before size) fs
+          (All-weaker (LiesIn byte_count hold) (λ g. All (LiesIn byte_count hold) (rest_before size g)) (LiesIn-before size) fs have.within);
+    }
+
   -- other holds that are the same for the pieces that have one
   pub HaveHolds-more : (hold more : Piece → Option H) (fs : List Fragment) → HaveHolds hold fs
       → ((q : Piece) → is_some (hold q) ≡ true → more q ≡ hold q) → HaveHolds more fs
@@ -76,19 +100,22 @@ module _ {H : Type 0} (byte_count : H → ℕ) where
   }
 
   module _ (is_ready : H → Bool) (piece_of : H → Piece) where
-    -- what is kept has holds
-    pub HaveHolds-kept : (x : Kept H) → IsKept is_ready piece_of byte_count x → HaveHolds (hold_of x.pieces) x.fragments
-    HaveHolds-kept x is = record {
-      spans = is.are_held.spans;
-      named = λ q some. is.are_held.named q ∙ some_named q x.fragments some;
-      within = is.are_held.within;
+    -- what is held has holds
+    pub HaveHolds-held : (x : Held H) → AreHeld is_ready piece_of byte_count x → HaveHolds x.hold_of x.fragments
+    HaveHolds-held x is = record {
+      spans = is.spans;
+      named = λ q some. is.named q ∙ some_named q x.fragments some;
+      within = is.within;
     }
+
+    pub HaveHolds-kept : (x : Kept H) → IsKept is_ready piece_of byte_count x → HaveHolds (hold_of x.pieces) x.fragments
+    HaveHolds-kept x is = HaveHolds-held (held x) is.are_held
 
     -- Once all fragments are put that were counted, and what none names is out, the rest is kept. What came out are the holds
     -- that were held before, where the pieces that got another hold are named.
     module _ (before laid : Pieces H) (fs : List Fragment) (have : HaveHolds (hold_of before) fs)
-        (counted : AreCounted is_ready piece_of before.entries) (numbers : (q : Piece) → number_of laid q ≡ fragment_count q fs)
-        (thins : Thins before laid) where
+        (ready : AreReady is_ready (hold_of before)) (theirs : AreTheirs piece_of (hold_of before))
+        (numbers : (q : Piece) → number_of laid q ≡ fragment_count q fs) (thins : Thins before laid) where
       pub hold_laid : (q : Piece) → hold_of laid q ≡ cond (is_named fs q) (hold_of before q) None
       hold_laid q = elim (cases_Bool (is_named fs q)) [
         | inl named ↦
@@ -108,8 +135,8 @@ module _ {H : Type 0} (byte_count : H → ℕ) where
             | inl named ↦ ap is_some (cond-true _ (hold_of before q) None named) ∙ have.named q (named_some q fs named) ∙ sym named
             | inr unnamed ↦ ap is_some (cond-false _ (hold_of before q) None unnamed) ∙ sym unnamed
           ];
-          piece = λ q h is. (hold_facts is_ready piece_of before.entries counted q h (held_before before laid thins q h is)).1;
-          ready = λ q h is. (hold_facts is_ready piece_of before.entries counted q h (held_before before laid thins q h is)).0;
+          piece = λ q h is. theirs q h (held_before before laid thins q h is);
+          ready = λ q h is. ready q h (held_before before laid thins q h is);
           within = All-weaker (LiesIn byte_count (hold_of before)) (LiesIn byte_count (hold_of laid))
               (λ f lies h is. lies h (held_before before laid thins f.piece h is)) fs have.within;
         };

@@ -5,7 +5,16 @@ pub mod Counts
 pub mod Releases
 pub mod Moves
 pub mod Holds
+pub mod Lent
+pub mod Entered
+pub mod Ending
+mod Dropped
+pub mod Discounted
+pub mod Pushed
 pub mod Places
 mod OnePut
 mod AllPut
+mod PushPut
+mod CutOff
+mod Taken
 mod Cases

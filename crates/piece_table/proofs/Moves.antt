@@ -1,6 +1,7 @@
 -- Pieces that move from one table into another, and holds that are taken out of one.
-use Rattle.fs_types.proofs.Common.{◌≡◌, ◌+◌, ◌<◌, ◌≤◌, Bool, true, cond, List, [], ◌∷◌, ◌++◌, length, Option, Some, None, is_some, IsTrue}
-use Rattle.fs_types.proofs.Common.{refl, sym, ap, ◌∙◌, subst, arith, cases_Bool, inl, inr, cond_both, cond-true, cond-false, true≢false, none-some, IsDistinct-from_apart, slice_get, slice_get-get_or, length_push}
+use Rattle.fs_types.proofs.Common.{◌≡◌, ◌+◌, ◌<◌, ◌≤◌, true, cond, List, [], ◌∷◌, ◌++◌, length, Option, Some, None, is_some}
+use Rattle.fs_types.proofs.Common.{refl, sym, ap, ◌∙◌, subst, arith, cases_Bool, inl, inr, cond_both, cond-true, cond-false, true≢false}
+use Rattle.fs_types.proofs.Common.{none-some, IsDistinct-from_apart, slice_get, slice_get-get_or, length_push}
 use Rattle.std.specs.Cmp.{IsEquivalence}
 use Rattle.std.specs.List.{IsDistinct}
 use Rattle.std.specs.Map.{keys_of, lookup, update_all}
@@ -12,7 +13,7 @@ use Rattle.indexmap.specs.IndexMap.{insert_all, insert_entry}
 use Rattle.fs_types.specs.Fragments.{piece_eq}
 use Rattle.fs_types.specs.Pieces.{Piece}
 use Rattle.piece_table.specs.declared.piece_table.Counted.{Counted}
-use Rattle.piece_table.specs.PieceTable.{AreCounted, number_in, hold_in}
+use Rattle.piece_table.specs.PieceTable.{AreCounted, AreTheirs, number_in, hold_in}
 use Rattle.piece_table.specs.Thinning.{AreOut}
 use Rattle.piece_table.proofs.Releases.{AreOut-one}
 use Rattle.piece_table.proofs.Tables.{AreCounted-after, hold_after, piece_eq-itself, piece_eq-sym, same_piece, unheld}
@@ -55,19 +56,16 @@ module _ {H : Type 0} where
         → hold_in (lookup (piece_eq q) new) ≡ option_or (hold_in (lookup (piece_eq q) over)) (hold_in (lookup (piece_eq q) es))
     hold_merged q = ap hold_in (found_merged q) ∙ hold-or (lookup (piece_eq q) over) (lookup (piece_eq q) es)
 
-    pub AreCounted-merged : (is_ready : H → Bool) (piece_of : H → Piece) → AreCounted is_ready piece_of es
-        → AreCounted is_ready piece_of over → IsDistinct piece_eq (keys_of new) → AreCounted is_ready piece_of new
-    AreCounted-merged is_ready piece_of of_es of_over apart = record {
+    pub AreCounted-merged : AreCounted es → AreCounted over → IsDistinct piece_eq (keys_of new) → AreCounted new
+    AreCounted-merged of_es of_over apart = record {
       apart = apart;
-      number = λ q c is. (by q c (lookup (piece_eq q) over) refl (sym (found_merged q) ∙ is)).0;
-      ready = λ q c is. (by q c (lookup (piece_eq q) over) refl (sym (found_merged q) ∙ is)).1;
-      piece = λ q c is. (by q c (lookup (piece_eq q) over) refl (sym (found_merged q) ∙ is)).2;
+      number = λ q c is. by q c (lookup (piece_eq q) over) refl (sym (found_merged q) ∙ is);
     }
       where
         by : (q : Piece) (c : Counted H) (o : Option (Counted H)) → lookup (piece_eq q) over ≡ o
-            → option_or o (lookup (piece_eq q) es) ≡ Some c → (0 < c.number) × IsTrue (is_ready c.hold) × (piece_of c.hold ≡ q)
-        by q c None none is = (of_es.number q c is, of_es.ready q c is, of_es.piece q c is)
-        by q c (Some d) some is = (of_over.number q c (some ∙ is), of_over.ready q c (some ∙ is), of_over.piece q c (some ∙ is))
+            → option_or o (lookup (piece_eq q) es) ≡ Some c → 0 < c.number
+        by q c None none is = of_es.number q c is
+        by q c (Some d) some is = of_over.number q c (some ∙ is)
 
   -- one entry more at most for each that is inserted
   length-insert_entry : (es : List (Piece × Counted H)) (p : Piece) (c : Counted H)
@@ -82,21 +80,18 @@ module _ {H : Type 0} where
   length-merged es (e ∷ over) = omega (arith, length-merged (insert_entry piece_eq es e.0 e.1) over, length-insert_entry es e.0 e.1)
 
 -- ---- a table without pieces
-module _ {H : Type 0} (is_ready : H → Bool) (piece_of : H → Piece) where
-  AreCounted-none : AreCounted is_ready piece_of []
+module _ {H : Type 0} where
+  AreCounted-none : AreCounted {H = H} []
   AreCounted-none = record {
     apart = IsDistinct-from_apart piece_eq [] (λ i j d below within. let no : ⊥ = omega (arith, within) in absurd no);
     number = λ q c is. absurd cc;
-    ready = λ q c is. absurd cc;
-    piece = λ q c is. absurd cc;
   }
 
-  pub AreCounted-empty : (es : List (Piece × Counted H)) → es ≡ [] → AreCounted is_ready piece_of es
-  AreCounted-empty es empty = subst (AreCounted is_ready piece_of) (sym empty) AreCounted-none
+  pub AreCounted-empty : (es : List (Piece × Counted H)) → es ≡ [] → AreCounted es
+  AreCounted-empty es empty = subst AreCounted (sym empty) AreCounted-none
 
 -- ---- the last entry is taken out
-module _ {H : Type 0} (is_ready : H → Bool) (piece_of : H → Piece) (es rest : List (Piece × Counted H)) (p : Piece) (c : Counted H)
-    (counted : AreCounted is_ready piece_of es) (last : es ≡ rest ++ (p, c) ∷ [])
+module _ {H : Type 0} (es rest : List (Piece × Counted H)) (p : Piece) (c : Counted H) (counted : AreCounted es) (last : es ≡ rest ++ (p, c) ∷ [])
     (updates : (q : Piece) → lookup (piece_eq q) rest ≡ cond (piece_eq p q) None (lookup (piece_eq q) es)) where
   found_last : lookup (piece_eq p) es ≡ Some c
   found_last = lookup_from_place piece_eq-laws es (length rest) p c counted.apart
@@ -104,12 +99,13 @@ module _ {H : Type 0} (is_ready : H → Bool) (piece_of : H → Piece) (es rest 
       ∙ slice_get-get_or (rest ++ (p, c) ∷ []) (length rest) (p, c) (omega (arith, length_push rest (p, c)))
       ∙ ap Some (get_or_push rest (p, c) (p, c) (length rest) refl))
 
-  pub AreCounted-taken : IsDistinct piece_eq (keys_of rest) → AreCounted is_ready piece_of rest
-  AreCounted-taken apart = AreCounted-after es rest p None updates is_ready piece_of counted apart (λ x is. absurd cc)
+  pub AreCounted-taken : IsDistinct piece_eq (keys_of rest) → AreCounted rest
+  AreCounted-taken apart = AreCounted-after es rest p None updates counted apart (λ x is. absurd cc)
 
-  pub AreOut-taken : AreOut piece_of (λ q. hold_in (lookup (piece_eq q) es)) (λ q. hold_in (lookup (piece_eq q) rest)) (c.hold ∷ [])
-  AreOut-taken = AreOut-one piece_of (λ q. hold_in (lookup (piece_eq q) es)) (λ q. hold_in (lookup (piece_eq q) rest)) p c.hold
-      (ap hold_in found_last) (counted.piece p c found_last)
+  pub AreOut-taken : (piece_of : H → Piece) → AreTheirs piece_of (λ q. hold_in (lookup (piece_eq q) es))
+      → AreOut piece_of (λ q. hold_in (lookup (piece_eq q) es)) (λ q. hold_in (lookup (piece_eq q) rest)) (c.hold ∷ [])
+  AreOut-taken piece_of theirs = AreOut-one piece_of (λ q. hold_in (lookup (piece_eq q) es)) (λ q. hold_in (lookup (piece_eq q) rest)) p c.hold
+      (ap hold_in found_last) (theirs p c.hold (ap hold_in found_last))
       (hold_after es rest p None updates p ∙ cond-true _ None (hold_in (lookup (piece_eq p) es)) (piece_eq-itself p))
       (λ q other. hold_after es rest p None updates q ∙ cond-false _ None (hold_in (lookup (piece_eq q) es)) other)
 

@@ -1,19 +1,21 @@
 -- A fragment of a new piece that was put with its hold.
-use Rattle.fs_types.proofs.Common.{◌≡◌, ℕ, ◌+◌, ◌<◌, ◌≤◌, ◌^◌, Bool, true, false, cond, List, ◌∷◌, Some, None, is_some, sym, ap, ◌∙◌, subst, arith}
+use Rattle.fs_types.proofs.Common.{◌≡◌, ℕ, ◌+◌, ◌<◌, ◌≤◌, ◌^◌, Bool, true, false, cond, List, ◌∷◌, Some, None, is_some, IsTrue, sym, ap}
+use Rattle.fs_types.proofs.Common.{◌∙◌, subst, arith}
 use Rattle.fs_types.proofs.Common.{cases_Bool, cases_lt, cond_both, inl, inr, cond-true, cond-false, true≢false, same_Some}
 use Rattle.fs_types.specs.Fragments.{piece_eq, fragment_count}
 use Rattle.fs_types.specs.Pieces.{Piece, Fragment}
 use Rattle.span_list.specs.Spans.{IsSpan, put_fragment}
-use Rattle.piece_table.specs.HeldSpans.{HandsOver, IsKept, Kept, Puts, held, is_named, kept}
-use Rattle.piece_table.specs.PieceTable.{AreCounted, Pieces, number_of, hold_of}
+use Rattle.piece_table.specs.HeldSpans.{HandsOver, Kept, Puts, held, is_named, kept}
+use Rattle.piece_table.specs.PieceTable.{AreReady, AreTheirs, Pieces, number_of, hold_of}
 use Rattle.piece_table.specs.Thinning.{Thins, ComesOut}
 use Rattle.piece_table.proofs.Counts.{count-cons, few_named, put_names, some_named}
-use Rattle.piece_table.proofs.Holds.{HaveHolds, HaveHolds-kept, HaveHolds-more, HaveHolds-put, hold_laid, IsKept-laid, HandsOver-laid}
+use Rattle.piece_table.proofs.Holds.{IsKept, HaveHolds, HaveHolds-kept, HaveHolds-more, HaveHolds-put, hold_laid, IsKept-laid, HandsOver-laid}
 use Rattle.piece_table.proofs.Tables.{piece_eq-itself, piece_eq-sym, same_piece}
 
 module _ {H : Type 0} (is_ready : H → Bool) (piece_of : H → Piece) (byte_count : H → ℕ)
     (old : Kept H) (f : Fragment) (h : H) (is_kept : IsKept is_ready piece_of byte_count old)
-    (span : IsSpan f) (of_f : piece_of h ≡ f.piece) (lies : f.from + f.len ≤ byte_count h) (new : hold_of old.pieces f.piece ≡ None)
+    (span : IsSpan f) (ready : IsTrue (is_ready h)) (of_f : piece_of h ≡ f.piece) (lies : f.from + f.len ≤ byte_count h)
+    (new : hold_of old.pieces f.piece ≡ None)
     (entered : Pieces H)
     (entered_numbers : (q : Piece) → number_of entered q ≡ cond (piece_eq (piece_of h) q) 1 (number_of old.pieces q))
     (entered_holds : (q : Piece) → hold_of entered q ≡ cond (piece_eq (piece_of h) q) (Some h) (hold_of old.pieces q)) where
@@ -74,7 +76,20 @@ module _ {H : Type 0} (is_ready : H → Bool) (piece_of : H → Piece) (byte_cou
       span (ap is_some (hold_here f.piece (piece_eq-itself f.piece)))
       (λ g is. subst (λ x. f.from + f.len ≤ byte_count x) (same_Some h g (sym (hold_here f.piece (piece_eq-itself f.piece)) ∙ is)) lies)
 
-  module _ (counted : AreCounted is_ready piece_of entered.entries) (laid : Pieces H) (fs : List Fragment)
+  entered_ready : AreReady is_ready (hold_of entered)
+  entered_ready q g is = elim (cases_Bool (piece_eq f.piece q)) [
+    | inl same ↦ subst (λ x. IsTrue (is_ready x)) (same_Some h g (sym (hold_here q same) ∙ is)) ready
+    | inr other ↦ is_kept.are_held.ready q g (sym (hold_there q other) ∙ is)
+  ]
+
+  -- each hold is of its piece then too
+  pub entered_theirs : AreTheirs piece_of (hold_of entered)
+  entered_theirs q g is = elim (cases_Bool (piece_eq f.piece q)) [
+    | inl same ↦ ap piece_of (sym (same_Some h g (sym (hold_here q same) ∙ is))) ∙ of_f ∙ same_piece f.piece q same
+    | inr other ↦ is_kept.are_held.piece q g (sym (hold_there q other) ∙ is)
+  ]
+
+  module _ (laid : Pieces H) (fs : List Fragment)
       (put : fs ≡ put_fragment f old.fragments)
       (numbers : (q : Piece) → number_of laid q + fragment_count q (f ∷ old.fragments) ≡ number_of entered q + fragment_count q fs)
       (thins : Thins entered laid) where
@@ -90,12 +105,12 @@ module _ {H : Type 0} (is_ready : H → Bool) (piece_of : H → Piece) (byte_cou
         (some_named f.piece (put_fragment f old.fragments) (put_names f old.fragments)))
 
     pub IsKept-put : IsKept is_ready piece_of byte_count (kept fs laid)
-    IsKept-put = IsKept-laid byte_count is_ready piece_of entered laid fs have counted laid_numbers thins
+    IsKept-put = IsKept-laid byte_count is_ready piece_of entered laid fs have entered_ready entered_theirs laid_numbers thins
 
     pub Puts-laid : Puts f h (held old) (held (kept fs laid))
     Puts-laid = record {
       fragments = put;
-      holds = λ q. hold_laid byte_count is_ready piece_of entered laid fs have counted laid_numbers thins q
+      holds = λ q. hold_laid byte_count is_ready piece_of entered laid fs have entered_ready entered_theirs laid_numbers thins q
           ∙ elim (cases_Bool (piece_eq q f.piece)) [
             | inl same ↦ cond-true _ (hold_of entered q) None (named_here q (piece_eq-sym q f.piece same))
                 ∙ hold_here q (piece_eq-sym q f.piece same)
@@ -113,7 +128,7 @@ module _ {H : Type 0} (is_ready : H → Bool) (piece_of : H → Piece) (byte_cou
 
     pub HandsOver-put : (dead after : List H) → ComesOut piece_of (hold_of entered) (hold_of laid) dead after
         → HandsOver piece_of (held old) (held (kept fs laid)) dead after
-    HandsOver-put = HandsOver-laid byte_count is_ready piece_of entered laid fs have counted laid_numbers thins old
+    HandsOver-put = HandsOver-laid byte_count is_ready piece_of entered laid fs have entered_ready entered_theirs laid_numbers thins old
         (λ q unnamed. elim (cases_Bool (piece_eq f.piece q)) [
           | inl same ↦ absurd (true≢false (sym (named_here q same) ∙ unnamed))
           | inr other ↦ hold_there q other

@@ -1,6 +1,8 @@
 -- Holds that come out of a table of pieces, one after another.
-use Rattle.fs_types.proofs.Common.{◌≡◌, ℕ, ◌+◌, ◌<◌, ◌-◌, Bool, true, false, cond, ◌&&◌, ◌==◌, List, [], ◌∷◌, ◌++◌, Option, Some, None, All, All-nil, All-cons, All-append, All-weaker}
-use Rattle.fs_types.proofs.Common.{Contains, Contains-append_left, Contains-append_right, Contains-push, refl, sym, ap, ◌∙◌, subst, arith, same_Some, append-nil, append_assoc, none-some}
+use Rattle.fs_types.proofs.Common.{◌≡◌, ℕ, ◌+◌, ◌<◌, ◌-◌, Bool, true, false, cond, ◌&&◌, ◌==◌, List, [], ◌∷◌, ◌++◌, Option, Some, None, All}
+use Rattle.fs_types.proofs.Common.{All-nil, All-cons, All-append, All-weaker}
+use Rattle.fs_types.proofs.Common.{Contains, Contains-append_left, Contains-append_right, Contains-push, refl, sym, ap, ◌∙◌, subst, arith}
+use Rattle.fs_types.proofs.Common.{same_Some, append-nil, append_assoc, none-some}
 use Rattle.fs_types.proofs.Common.{cases_Bool, inl, inr, eqb-true, eq-eqb, ne_eqb, cond-true, cond-false, true≢false}
 use Rattle.span_list.proofs.CallerLemmas.{AllPairs-nil, AllPairs-one, AllPairs-append}
 use Rattle.fs_types.specs.Fragments.{piece_eq}

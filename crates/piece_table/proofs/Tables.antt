@@ -1,6 +1,7 @@
 -- What a table has of each piece once it has something else of one.
-use Rattle.fs_types.proofs.Common.{◌≡◌, ℕ, ◌<◌, Bool, true, false, cond, is_some, ◌&&◌, List, [], ◌∷◌, length, Option, Some, None, IsTrue, refl, sym, ap, ◌∙◌, subst}
-use Rattle.fs_types.proofs.Common.{Decides-eqb, arith, none-some, same_Some}
+use Rattle.fs_types.proofs.Common.{◌≡◌, ℕ, ◌<◌, Bool, true, false, cond, is_some, ◌&&◌, List, [], ◌∷◌, length, Option, Some, None, refl}
+use Rattle.fs_types.proofs.Common.{sym, ap, ◌∙◌, subst}
+use Rattle.fs_types.proofs.Common.{Decides-eqb, arith}
 use Rattle.std.specs.List.{IsDistinct}
 use Rattle.std.specs.Map.{keys_of, lookup}
 use Rattle.std.proofs.lemmas.Bool.Decides.{Decides-and}
@@ -59,20 +60,25 @@ module _ {H : Type 0} (es new : List (Piece × Counted H)) (p : Piece) (w : Opti
       by true e = same ∙ ap (λ (r : Piece). hold_in (lookup (piece_eq r) es)) (same_piece p q e)
       by false e = refl
 
-  pub AreCounted-after : (is_ready : H → Bool) (piece_of : H → Piece) → AreCounted is_ready piece_of es → IsDistinct piece_eq (keys_of new)
-      → ((c : Counted H) → w ≡ Some c → (0 < c.number) × IsTrue (is_ready c.hold) × (piece_of c.hold ≡ p))
-      → AreCounted is_ready piece_of new
-  AreCounted-after is_ready piece_of all apart one = record {
+  -- where the piece keeps its number, all do
+  pub same_number_after : number_in w ≡ number_in (lookup (piece_eq p) es) → (q : Piece)
+      → number_in (lookup (piece_eq q) new) ≡ number_in (lookup (piece_eq q) es)
+  same_number_after same q = read_after number_in q ∙ by (piece_eq p q) refl
+    where
+      by : (b : Bool) → piece_eq p q ≡ b → cond b (number_in w) (number_in (lookup (piece_eq q) es)) ≡ number_in (lookup (piece_eq q) es)
+      by true e = same ∙ ap (λ (r : Piece). number_in (lookup (piece_eq r) es)) (same_piece p q e)
+      by false e = refl
+
+  pub AreCounted-after : AreCounted es → IsDistinct piece_eq (keys_of new) → ((c : Counted H) → w ≡ Some c → 0 < c.number)
+      → AreCounted new
+  AreCounted-after all apart one = record {
     apart = apart;
-    number = λ q c is. (by q c (piece_eq p q) refl (sym (updates q) ∙ is)).0;
-    ready = λ q c is. (by q c (piece_eq p q) refl (sym (updates q) ∙ is)).1;
-    piece = λ q c is. (by q c (piece_eq p q) refl (sym (updates q) ∙ is)).2;
+    number = λ q c is. by q c (piece_eq p q) refl (sym (updates q) ∙ is);
   }
     where
-      by : (q : Piece) (c : Counted H) (b : Bool) → piece_eq p q ≡ b → cond b w (lookup (piece_eq q) es) ≡ Some c
-          → (0 < c.number) × IsTrue (is_ready c.hold) × (piece_of c.hold ≡ q)
-      by q c true e is = let facts = one c is in (facts.0, facts.1, facts.2 ∙ same_piece p q e)
-      by q c false e is = (all.number q c is, all.ready q c is, all.piece q c is)
+      by : (q : Piece) (c : Counted H) (b : Bool) → piece_eq p q ≡ b → cond b w (lookup (piece_eq q) es) ≡ Some c → 0 < c.number
+      by q c true e is = one c is
+      by q c false e is = all.number q c is
 
 -- a test that another one decides, or rules out
 pub and_true : (b t : Bool) → t ≡ true → b ≡ (b && t)
@@ -88,8 +94,7 @@ pub unheld : {H : Type 0} (found : Option (Counted H)) → hold_in found ≡ Non
 unheld None none = refl
 unheld (Some c) none = absurd cc
 
-module _ {H : Type 0} (is_ready : H → Bool) (piece_of : H → Piece) (es : List (Piece × Counted H))
-    (all : AreCounted is_ready piece_of es) (q : Piece) where
+module _ {H : Type 0} (es : List (Piece × Counted H)) (all : AreCounted es) (q : Piece) where
   -- a piece that no fragment names has no hold
   pub unnumbered : number_in (lookup (piece_eq q) es) ≡ 0 → hold_in (lookup (piece_eq q) es) ≡ None
   unnumbered = by (lookup (piece_eq q) es) refl
@@ -110,15 +115,3 @@ module _ {H : Type 0} (is_ready : H → Bool) (piece_of : H → Piece) (es : Lis
 pub some_entries : {H : Type 0} (es : List (Piece × Counted H)) (q : Piece) → 0 < number_in (lookup (piece_eq q) es) → 0 < length es
 some_entries [] q some = absurd (omega arith)
 some_entries (e ∷ es) q some = omega arith
-
-module _ {H : Type 0} (is_ready : H → Bool) (piece_of : H → Piece) (es : List (Piece × Counted H))
-    (all : AreCounted is_ready piece_of es) (q : Piece) (h : H) where
-  -- each hold is ready and of its piece
-  pub hold_facts : hold_in (lookup (piece_eq q) es) ≡ Some h → IsTrue (is_ready h) × (piece_of h ≡ q)
-  hold_facts = by (lookup (piece_eq q) es) refl
-    where
-      by : (o : Option (Counted H)) → lookup (piece_eq q) es ≡ o → hold_in o ≡ Some h → IsTrue (is_ready h) × (piece_of h ≡ q)
-      by None is none = absurd (none-some h none)
-      by (Some c) is some =
-          let same = same_Some c.hold h some in
-          (subst (λ g. IsTrue (is_ready g)) same (all.ready q c is), ap piece_of (sym same) ∙ all.piece q c is)

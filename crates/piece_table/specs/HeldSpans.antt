@@ -1,11 +1,12 @@
 -- Fragments with the holds of the pieces that they name: what putting some over others gives, and which holds no fragment
 -- needs any more.
-use Rattle.std.specs.Prelude.{◌≡◌, ℕ, ◌+◌, ◌≤◌, Bool, false, IsTrue, List, ◌++◌, fold, All, AllPairs, Contains, Option, Some, None, is_some, if◌then◌else◌}
+use Rattle.std.specs.Prelude.{◌≡◌, ℕ, ◌+◌, ◌*◌, ◌≤◌, Bool, false, IsTrue, List, ◌++◌, fold, find, All, AllPairs, Contains, Option, Some}
+use Rattle.std.specs.Prelude.{None, is_some, if◌then◌else◌}
 use Rattle.std.specs.List.{list_any}
 use Rattle.fs_types.specs.Fragments.{piece_eq, fragment_count}
 use Rattle.fs_types.specs.Pieces.{Piece, Fragment}
-use Rattle.span_list.specs.Spans.{AreSpans, put_fragment}
-use Rattle.piece_table.specs.PieceTable.{Pieces, hold_of, number_of}
+use Rattle.span_list.specs.Spans.{AreSpans, put_fragment, cut_fragments}
+use Rattle.piece_table.specs.PieceTable.{Pieces, HoldSet, hold_of, number_of}
 
 -- fragments, and for each piece its hold, where some fragment names it
 pub record Held (H : Type 0) : Type 0 where
@@ -56,19 +57,47 @@ pub record AreHeld {H : Type 0} (is_ready : H → Bool) (piece_of : H → Piece)
   pub ready : (q : Piece) (h : H) → x.hold_of q ≡ Some h → IsTrue (is_ready h)
   pub within : All (LiesIn byte_count x.hold_of) x.fragments
 
--- what is kept: fragments in order of place, and a table of the pieces that they name
+-- what is kept: fragments in order of place, how many more of them fit without taking memory, and a table of the pieces that
+-- they name
 pub record Kept (H : Type 0) : Type 0 where
   pub fragments : List Fragment
+  pub spare : ℕ
   pub pieces : Pieces H
 
+abbrev pub kept_with : {H : Type 0} → List Fragment → ℕ → Pieces H → Kept H
+kept_with fragments spare pieces = record { fragments = fragments; spare = spare; pieces = pieces }
+
+-- what is kept where no more fragments fit
 abbrev pub kept : {H : Type 0} → List Fragment → Pieces H → Kept H
-kept fragments pieces = record { fragments = fragments; pieces = pieces }
+kept fragments pieces = kept_with fragments 0 pieces
+
+-- so many fragments of new pieces can be put without taking memory: each adds a piece, and at most two fragments
+pub record HasRoom {H : Type 0} (n : ℕ) (x : Kept H) : Type 0 where
+  pub fragments : 2 * n ≤ x.spare
+  pub pieces : n ≤ x.pieces.spare
 
 -- what is kept as fragments with holds
 abbrev pub held : {H : Type 0} → Kept H → Held H
 held x = record { fragments = x.fragments; hold_of = hold_of x.pieces }
 
--- what is kept is held, and the table counts the fragments of each piece
-pub record IsKept {H : Type 0} (is_ready : H → Bool) (piece_of : H → Piece) (byte_count : H → ℕ) (x : Kept H) : Type 0 where
-  pub are_held : AreHeld is_ready piece_of byte_count (held x)
+-- the fragments are in order, the pieces that have a hold are those that some fragment names, and the table counts the
+-- fragments of each: this is so whatever the holds are
+pub record IsCounted {H : Type 0} (x : Kept H) : Type 0 where
+  pub spans : AreSpans x.fragments
+  pub named : (q : Piece) → is_some (hold_of x.pieces q) ≡ is_named x.fragments q
   pub numbers : (q : Piece) → number_of x.pieces q ≡ fragment_count q x.fragments
+
+-- one piece has another hold, where it has one: its number stays, the fragments, their room, and all other pieces
+pub record SetsHold {H : Type 0} (p : Piece) (h : H) (old new : Kept H) : Type 0 where
+  pub fragments : new.fragments ≡ old.fragments
+  pub spare : new.spare ≡ old.spare
+  pub pieces : HoldSet p h old.pieces new.pieces
+
+-- what a push has: its fragments, and the holds of the pieces that they name
+abbrev pub pushed : {H : Type 0} → (H → Piece) → List Fragment → List H → Held H
+pushed piece frags holds = record { fragments = frags; hold_of = λ q. find (λ h. piece_eq (piece h) q) holds }
+
+-- what is left of fragments with holds once the bytes from a place on are dropped: each piece that is named still has its hold
+pub record Cuts {H : Type 0} (size : ℕ) (old new : Held H) : Type 0 where
+  pub fragments : new.fragments ≡ cut_fragments size old.fragments
+  pub holds : (q : Piece) → new.hold_of q ≡ (if is_named new.fragments q then old.hold_of q else None)

@@ -1,5 +1,5 @@
 -- The pieces of a table: how many fragments name each, and its hold.
-use Rattle.std.specs.Prelude.{◌≡◌, ℕ, ◌<◌, Bool, IsTrue, List, Option, Some, option_map}
+use Rattle.std.specs.Prelude.{◌≡◌, ℕ, ◌<◌, Bool, IsTrue, List, length, Option, Some, option_map, if◌then◌else◌}
 use Rattle.std.specs.Option.{option_map_or}
 use Rattle.std.specs.List.{IsDistinct}
 use Rattle.std.specs.Map.{keys_of, lookup}
@@ -33,9 +33,22 @@ module _ {H : Type 0} where
   abbrev pub hold_of : Pieces H → Piece → Option H
   hold_of t q = hold_in (counted_of t q)
 
-  -- no piece is there twice; each that is there is named by some fragment, and its hold is ready and of that piece
-  pub record AreCounted (is_ready : H → Bool) (piece_of : H → Piece) (entries : List (Piece × Counted H)) : Type 0 where
+  -- no piece is there twice, and each that is there is named by some fragment
+  pub record AreCounted (entries : List (Piece × Counted H)) : Type 0 where
     pub apart : IsDistinct piece_eq (keys_of entries)
     pub number : (q : Piece) (c : Counted H) → lookup (piece_eq q) entries ≡ Some c → 0 < c.number
-    pub ready : (q : Piece) (c : Counted H) → lookup (piece_eq q) entries ≡ Some c → IsTrue (is_ready c.hold)
-    pub piece : (q : Piece) (c : Counted H) → lookup (piece_eq q) entries ≡ Some c → piece_of c.hold ≡ q
+
+  -- each hold is of the piece that it stands for
+  abbrev pub AreTheirs : (H → Piece) → (Piece → Option H) → Type 0
+  AreTheirs piece_of hold_at = (q : Piece) (h : H) → hold_at q ≡ Some h → piece_of h ≡ q
+
+  -- each hold is ready
+  abbrev pub AreReady : (H → Bool) → (Piece → Option H) → Type 0
+  AreReady is_ready hold_at = (q : Piece) (h : H) → hold_at q ≡ Some h → IsTrue (is_ready h)
+
+  -- the table with another hold of a piece, where it has that piece: the numbers of all pieces stay, and the other holds
+  pub record HoldSet (p : Piece) (h : H) (old new : Pieces H) : Type 0 where
+    pub numbers : (q : Piece) → number_of new q ≡ number_of old q
+    pub holds : (q : Piece) → hold_of new q ≡ (if piece_eq p q then Some h else hold_of old q)
+    pub len : length new.entries ≡ length old.entries
+    pub spare : new.spare ≡ old.spare

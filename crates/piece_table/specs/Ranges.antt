@@ -1,5 +1,5 @@
--- The fragments that lie whole in a range of a file, and those that reach past both of its ends.
-use Rattle.std.specs.Prelude.{ℕ, Bool, ◌&&◌, nat_le, nat_lt, List, filter}
+-- The fragments that lie whole in a range of a file, those that reach past both of its ends, and how many end in it.
+use Rattle.std.specs.Prelude.{ℕ, Bool, ◌&&◌, nat_le, nat_lt, List, filter, count_by, sum_by}
 use Rattle.fs_types.specs.Fragments.{end_of}
 use Rattle.fs_types.specs.Pieces.{Fragment}
 
@@ -18,3 +18,15 @@ covered at end fs = filter (is_covered at end) fs
 -- the fragments that reach past both
 abbrev pub reaching : ℕ → ℕ → List Fragment → List Fragment
 reaching at end fs = filter (reaches_past at end) fs
+
+-- a fragment ends behind a place, and not past another
+abbrev pub ends_within : ℕ → ℕ → Fragment → Bool
+ends_within at end f = nat_lt at (end_of f) && nat_le (end_of f) end
+
+-- how many fragments end behind a place and not past another
+abbrev pub ending_count : ℕ → ℕ → List Fragment → ℕ
+ending_count at end fs = count_by (ends_within at end) fs
+
+-- how many fragments have their last byte in the range of each of these, in all
+abbrev pub ends_under : List Fragment → List Fragment → ℕ
+ends_under over fs = sum_by (λ f. ending_count f.at (end_of f) fs) over

@@ -6,8 +6,8 @@ ghost use Rattle.fs_types.specs.Fragments.{end_of, fragment_count, piece_eq};
 ghost use Rattle.fs_types.specs.Pieces.{Piece};
 ghost use Rattle.span_list.specs.Spans.{IsSpan, put_fragment};
 ghost use Rattle.piece_table.specs.HeldSpans.{put_fragments};
-ghost use Rattle.piece_table.specs.PieceTable.{hold_of, number_of};
-ghost use Rattle.piece_table.specs.Ranges.{covered, reaching};
+ghost use Rattle.piece_table.specs.PieceTable.{AreTheirs, hold_of, number_of};
+ghost use Rattle.piece_table.specs.Ranges.{covered, ends_under, reaching};
 ghost use Rattle.piece_table.specs.Thinning.{Thins, ComesOut};
 
 use crate::piece_table::PieceTable;
@@ -18,6 +18,7 @@ use span_list::Spans;
 // One fragment of a piece goes out.
 fn release_one<H: Hold + Drop>(pieces: &mut PieceTable<H>, p: PieceId, dead: &mut Vec<H>)
     requires there { 0 < number_of pieces.old p }
+    requires theirs { AreTheirs H.piece (hold_of pieces.old) }
     requires room { vec_len dead.old < vec_capacity dead.old }
     ensures numbers { (q : Piece)
         → number_of pieces.new q + (if piece_eq p q then 1 else 0) ≡ number_of pieces.old q }
@@ -27,6 +28,7 @@ fn release_one<H: Hold + Drop>(pieces: &mut PieceTable<H>, p: PieceId, dead: &mu
     ensures len { length pieces.new.entries + vec_len dead.new
         ≡ length pieces.old.entries + vec_len dead.old }
     ensures one { vec_len dead.new ≤ vec_len dead.old + 1 }
+    ensures spare { pieces.old.spare ≤ pieces.new.spare }
     ensures capacity { vec_capacity dead.old ≤ vec_capacity dead.new }
 {
     if let Some(hold) = pieces.less(p) {
@@ -34,8 +36,8 @@ fn release_one<H: Hold + Drop>(pieces: &mut PieceTable<H>, p: PieceId, dead: &mu
     }
 }
 
-// The fragments that lie whole between two places go out.
-fn release_covered<H: Hold + Drop, S: Spans>(
+/// The fragments that lie whole between two places go out.
+pub fn release_covered<H: Hold + Drop, S: Spans>(
     spans: &S,
     pieces: &mut PieceTable<H>,
     at: u64,
@@ -44,6 +46,7 @@ fn release_covered<H: Hold + Drop, S: Spans>(
 )
     requires there { (q : Piece) → fragment_count q (covered at end (S.fragments spans.now))
         ≤ number_of pieces.old q }
+    requires theirs { AreTheirs H.piece (hold_of pieces.old) }
     requires unheld { (q : Piece) → number_of pieces.old q ≡ 0 → hold_of pieces.old q ≡ None }
     requires room { min (length (covered at end (S.fragments spans.now)))
         (length pieces.old.entries) + vec_len dead.old ≤ vec_capacity dead.old }
@@ -54,6 +57,9 @@ fn release_covered<H: Hold + Drop, S: Spans>(
         dead.old.items dead.new.items }
     ensures len { length pieces.new.entries + vec_len dead.new
         ≡ length pieces.old.entries + vec_len dead.old }
+    ensures few { vec_len dead.new
+        ≤ vec_len dead.old + length (covered at end (S.fragments spans.now)) }
+    ensures spare { pieces.old.spare ≤ pieces.new.spare }
     ensures capacity { vec_capacity dead.old ≤ vec_capacity dead.new }
 {
     let mut place = at;
@@ -78,6 +84,7 @@ fn count_reaching<H: Hold + Drop, S: Spans>(
         ≡ number_of pieces.old q + fragment_count q (reaching at end (S.fragments spans.now)) }
     ensures holds { (q : Piece) → hold_of pieces.new q ≡ hold_of pieces.old q }
     ensures len { length pieces.new.entries ≡ length pieces.old.entries }
+    ensures spare { pieces.new.spare ≡ pieces.old.spare }
 {
     if let Some(g) = next_reaching(spans, at, end) {
         pieces.more(g.piece);
@@ -96,6 +103,7 @@ pub fn lay<H: Hold + Drop, S: Spans>(
     requires there { (q : Piece) → fragment_count q (f ∷ S.fragments spans.old)
         ≤ number_of pieces.old q }
     requires few { (q : Piece) → number_of pieces.old q < 2 ^ 63 }
+    requires theirs { AreTheirs H.piece (hold_of pieces.old) }
     requires unheld { (q : Piece) → number_of pieces.old q ≡ 0 → hold_of pieces.old q ≡ None }
     requires room { min (length (covered f.at (end_of f) (S.fragments spans.old)))
         (length pieces.old.entries) + vec_len dead.old ≤ vec_capacity dead.old }
@@ -109,6 +117,9 @@ pub fn lay<H: Hold + Drop, S: Spans>(
         dead.old.items dead.new.items }
     ensures len { length pieces.new.entries + vec_len dead.new
         ≡ length pieces.old.entries + vec_len dead.old }
+    ensures few { vec_len dead.new
+        ≤ vec_len dead.old + length (covered f.at (end_of f) (S.fragments spans.old)) }
+    ensures spare_pieces { pieces.old.spare ≤ pieces.new.spare }
     ensures capacity { vec_capacity dead.old ≤ vec_capacity dead.new }
 {
     let end = f.at + f.len;
@@ -127,8 +138,10 @@ pub fn lay_all<H: Hold + Drop, S: Spans>(
     requires spare { 2 * length (S.fragments over.now) ≤ S.spare spans.old }
     requires counted { (q : Piece) → number_of pieces.old q
         ≡ fragment_count q (S.fragments spans.old) + fragment_count q (S.fragments over.now) }
+    requires theirs { AreTheirs H.piece (hold_of pieces.old) }
     requires unheld { (q : Piece) → number_of pieces.old q ≡ 0 → hold_of pieces.old q ≡ None }
-    requires room { length pieces.old.entries + vec_len dead.old ≤ vec_capacity dead.old }
+    requires room { ends_under (S.fragments over.now) (S.fragments spans.old) + vec_len dead.old
+        ≤ vec_capacity dead.old }
     ensures fragments { S.fragments spans.new
         ≡ put_fragments (S.fragments over.now) (S.fragments spans.old) }
     ensures numbers { (q : Piece)

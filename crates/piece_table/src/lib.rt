@@ -3,24 +3,40 @@
 //! outside memory.
 //!
 //! A piece that a fragment names is held once, however many fragments name it. When the last of
-//! them goes, its hold comes out, so that whoever keeps the bytes can let them go.
+//! them goes, its hold comes out, so that whoever keeps the bytes can let them go. A hold can be of
+//! any kind that meets `Hold`, and the fragments can be kept by whatever meets `Spans`.
+//!
+//! Each piece is put once: before a put, `get` finds no hold of its piece. A call that may want
+//! memory makes room first, so after `Err` all is as before, and what was given comes back.
+//!
+//! Calls that put, cut, clear or take ask for `AreHeld`, and keep it: each piece that is named has
+//! a ready hold of its own, in which its fragments lie, and no other piece has one. `hold_of` lends
+//! the hold of a piece to change; a ready hold of the same piece and length, left there, keeps it
+//! too. `take_push` gives all fragments and holds as one push, and leaves none. `put_push` puts a
+//! push of new pieces over the fragments. `reserve` makes room for so many puts: each of them takes
+//! no memory then, while `dead` has room for a hold of each fragment in its range.
 //!
 //! ```
-//! let mut held: HeldSpans<MemHold, SpanList> = HeldSpans::new(alloc);
+//! let mut kept: HeldSpans<MemHold, SpanList> = HeldSpans::new(alloc);
 //! let mut dead = Vec::new(alloc);
 //! let first = PieceId { line: LineNo(3), part: 0 };
-//! let frag = Frag { at: 0, len: 10, piece: first, from: 0 };
-//! held.put(frag, MemHold::new(first, 10, None), &mut dead)?;
 //! let second = PieceId { line: LineNo(4), part: 0 };
+//! let under = Frag { at: 0, len: 10, piece: first, from: 0 };
 //! let over = Frag { at: 0, len: 12, piece: second, from: 0 };
-//! held.put(over, MemHold::new(second, 12, None), &mut dead)?;
+//! kept.put(under, MemHold::new(first, 10, None), &mut dead).ok().ok_or("there is memory")?;
+//! kept.put(over, MemHold::new(second, 12, None), &mut dead).ok().ok_or("there is memory")?;
 //! // no byte of `first` is left: `dead` has its hold
+//! kept.cut(5, &mut dead).ok().ok_or("there is memory")?;
+//! // five bytes of `second` are left, so its hold stays
+//! let left = kept.next(0);
+//! let hold = kept.get(second);
 //! ```
 #![tactic(auto)]
 
 mod held_spans;
 mod laying;
 mod piece_table;
+mod pushing;
 mod ranges;
 
 pub use held_spans::HeldSpans;

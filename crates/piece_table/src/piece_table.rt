@@ -1,10 +1,13 @@
 //! Pieces that fragments name: how many fragments name each, and its hold.
 
-ghost use Rattle.std.specs.Prelude.{◌≡◌, ◌==◌, ◌&&◌, ◌+◌, ◌-◌, ◌<◌, ◌≤◌, ◌^◌, [], length, vec_len, vec_capacity, is_some, if◌then◌else◌, option_copied, IsSome, IsTrue, IsOk, IfErr, IfSome, OnOk, OnErr};
+ghost use Rattle.std.specs.Prelude.{◌≡◌, ◌==◌, ◌&&◌, ◌+◌, ◌-◌, ◌<◌, ◌≤◌, ◌^◌, [], length, vec_len, vec_capacity, is_some, if◌then◌else◌};
+ghost use Rattle.std.specs.Prelude.{option_copied, IsSome, IsTrue, IsOk, IfErr, IfSome, OnOk, OnErr};
 ghost use Rattle.fs_types.specs.Fragments.{piece_eq};
 ghost use Rattle.fs_types.specs.Pieces.{Piece};
-ghost use Rattle.std.specs.Option.{option_or};
-ghost use Rattle.piece_table.specs.PieceTable.{AreCounted, number_of, hold_of};
+ghost use Rattle.std.specs.Borrow.{sem};
+ghost use Rattle.std.specs.Option.{option_copied_mut, option_or};
+ghost use Rattle.piece_table.specs.Lends.{lends_hold};
+ghost use Rattle.piece_table.specs.PieceTable.{AreCounted, AreTheirs, number_of, hold_of};
 ghost use Rattle.piece_table.specs.Thinning.{ComesOut};
 
 use fs_types::{Hold, PieceId, Want};
@@ -33,7 +36,7 @@ impl<H: Hold> Model for PieceTable<H> {
 
     ghost view = { λ t. record { entries = t.pieces.entries; spare = spare t.pieces } };
 
-    ghost invariant = { λ t. AreCounted H.is_ready H.piece t.pieces.entries };
+    ghost invariant = { λ t. AreCounted t.pieces.entries };
 }
 
 impl<H: Hold + Drop> PieceTable<H> {
@@ -52,16 +55,28 @@ impl<H: Hold + Drop> PieceTable<H> {
     pub fn len(&self) -> usize
         ensures len { result ≡ length self.now.entries }
         ensures small { result < 2 ^ 63 }
-        ensures counted { AreCounted H.is_ready H.piece self.now.entries }
+        ensures counted { AreCounted self.now.entries }
     {
         self.pieces.len()
     }
 
     /// The hold of a piece.
-    pub fn hold(&self, p: PieceId) -> Option<&H>
+    pub fn get(&self, p: PieceId) -> Option<&H>
         ensures { option_copied result ≡ hold_of self.now p }
     {
         Some(&self.pieces.get(&p)?.hold)
+    }
+
+    /// The hold of a piece, to change. What is left behind the reference is the hold of the piece
+    /// then; the number of the piece, and all other pieces, stay.
+    pub fn hold(&mut self, p: PieceId) -> Option<&mut H>
+        ensures* writes_back { sem 𝓛 (lends_hold H.row H.Hold self.entry p result) }
+        ensures hold { option_copied_mut result ≡ hold_of self.old p }
+    {
+        let Some(counted) = self.pieces.get_mut(&p) else {
+            return None;
+        };
+        Some(&mut counted.hold)
     }
 
     /// Enters a piece, which one fragment names. It takes no memory where there is a place to
@@ -80,7 +95,7 @@ impl<H: Hold + Drop> PieceTable<H> {
         ensures same { OnErr result (self.new.entries ≡ self.old.entries) }
         ensures room { 0 < self.old.spare → IsOk result }
         ensures spare { self.old.spare ≤ self.new.spare + 1 }
-        ensures counted { AreCounted H.is_ready H.piece self.new.entries }
+        ensures counted { AreCounted self.new.entries }
     {
         let piece = h.piece();
         match self.pieces.insert(piece, Counted { number: 1, hold: h }) {
@@ -102,7 +117,7 @@ impl<H: Hold + Drop> PieceTable<H> {
         ensures holds { (q : Piece) → hold_of self.new q ≡ hold_of self.old q }
         ensures len { length self.new.entries ≡ length self.old.entries }
         ensures spare { self.new.spare ≡ self.old.spare }
-        ensures counted { AreCounted H.is_ready H.piece self.new.entries }
+        ensures counted { AreCounted self.new.entries }
     {
         let Some(counted) = self.pieces.get_mut(&p) else {
             return;
@@ -125,8 +140,7 @@ impl<H: Hold + Drop> PieceTable<H> {
         ensures len { length self.new.entries + (if is_some result then 1 else 0)
             ≡ length self.old.entries }
         ensures spare { self.old.spare ≤ self.new.spare }
-        ensures piece { IfSome result (λ h. H.piece h ≡ p) }
-        ensures counted { AreCounted H.is_ready H.piece self.new.entries }
+        ensures counted { AreCounted self.new.entries }
     {
         let counted = self.pieces.get_mut(&p)?;
         counted.number -= 1;
@@ -137,9 +151,10 @@ impl<H: Hold + Drop> PieceTable<H> {
         Some(hold)
     }
 
-    /// Makes room for so many more pieces.
+    /// Makes room for so many more pieces. It takes no memory where they fit already.
     pub fn reserve(&mut self, n: usize) -> Result<(), Want>
         ensures room { OnOk result (n ≤ self.new.spare) }
+        ensures succeeds { n ≤ self.old.spare → IsOk result }
         ensures same { self.new.entries ≡ self.old.entries }
         ensures spare { self.old.spare ≤ self.new.spare }
     {
@@ -160,7 +175,7 @@ impl<H: Hold + Drop> PieceTable<H> {
         ensures emptied { OnOk result (other.new.entries ≡ []) }
         ensures same { OnErr result (self.new.entries ≡ self.old.entries) }
         ensures same_other { OnErr result (other.new.entries ≡ other.old.entries) }
-        ensures counted { AreCounted H.is_ready H.piece self.new.entries }
+        ensures counted { AreCounted self.new.entries }
     {
         self.pieces.append(&mut other.pieces)?;
         Ok(())
@@ -168,7 +183,8 @@ impl<H: Hold + Drop> PieceTable<H> {
 
     /// Moves all holds out, into a list with room for them. It takes no memory.
     pub fn take_all(&mut self, out: &mut Vec<H>)
-        requires { length self.old.entries + vec_len out.old ≤ vec_capacity out.old }
+        requires theirs { AreTheirs H.piece (hold_of self.old) }
+        requires room { length self.old.entries + vec_len out.old ≤ vec_capacity out.old }
         ensures emptied { self.new.entries ≡ [] }
         ensures out { ComesOut H.piece (hold_of self.old) (hold_of self.new)
             out.old.items out.new.items }

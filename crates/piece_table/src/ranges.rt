@@ -1,13 +1,15 @@
-//! The fragments that lie whole in a range of a file: a walk of those alone.
+//! The fragments that lie whole in a range of a file, and how many end in it: walks of those alone;
+//! and a list of all.
 
-ghost use Rattle.std.specs.Prelude.{◌≡◌, ◌≤◌, ◌+◌, ◌∷◌, [], length, find, IfSome, MatchOption};
+ghost use Rattle.std.specs.Prelude.{◌≡◌, ◌≤◌, ◌+◌, ◌∷◌, [], length, find, IfOk, IfSome, MatchOption};
 ghost use Rattle.fs_types.specs.Fragments.{end_of};
 ghost use Rattle.fs_types.specs.declared.limits.TheConstants.{LONGEST_FILE};
-ghost use Rattle.span_list.specs.Spans.{IsSpan, begins_from};
-ghost use Rattle.piece_table.specs.Ranges.{covered, reaching};
+ghost use Rattle.span_list.specs.Spans.{AreSpans, IsSpan, begins_from};
+ghost use Rattle.piece_table.specs.Ranges.{covered, ending_count, ends_under, reaching};
 
-use fs_types::Frag;
+use fs_types::{Frag, LONGEST_FILE, Want};
 use span_list::Spans;
+use std::alloc::Global;
 
 // The first fragment that doesn't begin before a place.
 fn next_begun<S: Spans>(spans: &S, at: u64) -> Option<Frag>
@@ -54,6 +56,60 @@ pub fn next_reaching<S: Spans>(spans: &S, at: u64, end: u64) -> Option<Frag>
     Some(g)
 }
 
+// The next fragment from a place on, if it doesn't end past another.
+fn next_ending<S: Spans>(spans: &S, at: u64, end: u64) -> Option<Frag>
+    ensures next { MatchOption result (ending_count at end (S.fragments spans.now) ≡ 0)
+        (λ g. ending_count at end (S.fragments spans.now)
+        ≡ 1 + ending_count (end_of g) end (S.fragments spans.now)) }
+    ensures span { IfSome result IsSpan }
+{
+    let Some(g) = spans.next(at) else {
+        return None;
+    };
+    if end < g.at + g.len {
+        return None;
+    }
+    Some(g)
+}
+
+/// How many fragments end behind a place and not past another.
+pub fn count_ending<S: Spans>(spans: &S, at: u64, end: u64) -> usize
+    ensures { result ≡ ending_count at end (S.fragments spans.now) }
+{
+    let mut count = 0;
+    let mut place = at;
+    while let Some(g) = next_ending(spans, place, end) {
+        count += 1;
+        place = g.at + g.len;
+    }
+    count
+}
+
+/// How many fragments have their last byte in the range of each of these, in all.
+pub fn count_under<S: Spans>(spans: &S, over: &[Frag]) -> usize
+    requires { AreSpans over.now }
+    ensures { result ≡ ends_under over.now (S.fragments spans.now) }
+{
+    let mut count = 0;
+    for f in over {
+        count += count_ending(spans, f.at, f.at + f.len);
+    }
+    count
+}
+
+/// How many fragments have their last byte in the range of each fragment of another list, in all.
+pub fn count_under_all<S: Spans>(spans: &S, over: &S) -> usize
+    ensures { result ≡ ends_under (S.fragments over.now) (S.fragments spans.now) }
+{
+    let mut count = 0;
+    let mut place = 0;
+    while let Some(f) = next_covered(over, place, LONGEST_FILE) {
+        count += count_ending(spans, f.at, f.at + f.len);
+        place = f.at + f.len;
+    }
+    count
+}
+
 /// How many fragments lie whole between two places.
 pub fn count_covered<S: Spans>(spans: &S, at: u64, end: u64) -> usize
     ensures { result ≡ length (covered at end (S.fragments spans.now)) }
@@ -65,4 +121,18 @@ pub fn count_covered<S: Spans>(spans: &S, at: u64, end: u64) -> usize
         place = g.at + g.len;
     }
     count
+}
+
+/// All fragments, in order of place.
+pub fn all_fragments<S: Spans>(spans: &S, alloc: Global) -> Result<Vec<Frag>, Want>
+    ensures { IfOk result (λ list. list.items ≡ S.fragments spans.now) }
+{
+    let mut list = Vec::new(alloc);
+    list.reserve(count_covered(spans, 0, LONGEST_FILE))?;
+    let mut place = 0;
+    while let Some(f) = next_covered(spans, place, LONGEST_FILE) {
+        list.push_reserved(f);
+        place = f.at + f.len;
+    }
+    Ok(list)
 }

@@ -1,6 +1,10 @@
-ghost use Rattle.std.specs.Prelude.{◌≡◌, ◌≤◌, ◌<◌, ◌⊎◌, IsSome, IfOk, OnOk};
+ghost use Rattle.std.specs.Prelude.{◌≡◌, ◌≤◌, ◌<◌, ◌⊎◌, true, IsSome, IfOk, OnOk};
 ghost use Rattle.fs_types.specs.Pieces.{Piece};
-ghost use Rattle.piece_table.specs.HeldSpans.{held};
+ghost use Rattle.piece_table.specs.HeldSpans.{AreHeld, held};
+
+mod pushes;
+mod random;
+mod taken;
 
 use super::*;
 use fs_types::{Frag, Hold, LONGEST_FILE, LineNo, MemHold, PieceId};
@@ -22,14 +26,16 @@ fn piece(line: u32) -> PieceId
 
 // Puts the whole of a new piece.
 fn put(kept: &mut Kept, at: u64, len: u32, line: u32, dead: &mut Vec<MemHold>) -> Result<(), Fail>
-    ensures { OnOk result ((q : Piece) → IsSome ((held kept.new).hold_of q)
+    requires { AreHeld (λ _. true) (λ h. h.piece) (λ h. h.bytes) (held kept.old) }
+    ensures lines { OnOk result ((q : Piece) → IsSome ((held kept.new).hold_of q)
         → IsSome ((held kept.old).hold_of q) ⊎ (q.line ≡ line)) }
+    ensures are_held { AreHeld (λ _. true) (λ h. h.piece) (λ h. h.bytes) (held kept.new) }
 {
     let piece = piece(line);
     if len == 0 || at > LONGEST_FILE - u64::from(len) {
         return Err("a fragment of no file".into());
     }
-    if kept.hold_of(piece).is_some() {
+    if kept.get(piece).is_some() {
         return Err("the piece is there".into());
     }
     let f = Frag {
@@ -45,18 +51,25 @@ fn put(kept: &mut Kept, at: u64, len: u32, line: u32, dead: &mut Vec<MemHold>) -
 }
 
 // What puts of new pieces give, each as the place, the length and the line, where the lines are
-// within a range.
-fn held_of(alloc: Global, first: u32, past: u32, puts: &[(u64, u32, u32)]) -> Result<Kept, Fail>
-    ensures { IfOk result (λ kept. (q : Piece) → IsSome ((held kept).hold_of q)
+// within a range. The holds that come out go to `dead`.
+fn held_of(
+    alloc: Global,
+    first: u32,
+    past: u32,
+    puts: &[(u64, u32, u32)],
+    dead: &mut Vec<MemHold>,
+) -> Result<Kept, Fail>
+    ensures lines { IfOk result (λ kept. (q : Piece) → IsSome ((held kept).hold_of q)
         → (first ≤ q.line) × (q.line < past)) }
+    ensures are_held { IfOk result (λ kept.
+        AreHeld (λ _. true) (λ h. h.piece) (λ h. h.bytes) (held kept)) }
 {
     let mut kept = HeldSpans::new(alloc);
-    let mut dead = Vec::new(alloc);
     for (at, len, line) in puts {
         if *line < first || past <= *line {
             return Err("a line outside the range".into());
         }
-        put(&mut kept, *at, *len, *line, &mut dead)?;
+        put(&mut kept, *at, *len, *line, dead)?;
     }
     Ok(kept)
 }
@@ -80,77 +93,44 @@ fn line_at(held: &Kept, at: u64) -> Option<u32> {
     Some(f.piece.line.0)
 }
 
+// The example at the head of the crate.
 #[test]
-fn a_hold_comes_out_with_the_last_byte_of_its_piece(rt: HostRuntime) -> Result<(), Fail> {
+fn a_hold_comes_out_of_what_is_put_over(rt: HostRuntime) -> Result<(), Fail> {
     let alloc = rt.alloc();
-    for (name, puts, want) in [
-        (
-            "nothing is left of it",
-            [(20, 10, 1), (20, 10, 2)].as_slice(),
-            [1].as_slice(),
-        ),
-        ("both halves are left", &[(20, 10, 1), (24, 2, 2)], &[]),
-        (
-            "its left half is left",
-            &[(20, 10, 1), (24, 2, 2), (26, 4, 3)],
-            &[],
-        ),
-        (
-            "its right half is left",
-            &[(20, 10, 1), (24, 2, 2), (20, 4, 3)],
-            &[],
-        ),
-        (
-            "its halves go one after the other",
-            &[(20, 10, 1), (24, 2, 2), (20, 4, 3), (26, 4, 4)],
-            &[1],
-        ),
-        (
-            "its halves go at once, and what stood between",
-            &[(20, 10, 1), (24, 2, 2), (20, 10, 3)],
-            &[1, 2],
-        ),
-        (
-            "one put takes the last bytes of two",
-            &[(0, 4, 1), (4, 4, 2), (0, 8, 3)],
-            &[1, 2],
-        ),
-        ("its first byte is left", &[(20, 10, 1), (21, 9, 2)], &[]),
-        ("its last byte is left", &[(20, 10, 1), (20, 9, 2)], &[]),
-    ] {
-        let mut held: Kept = HeldSpans::new(alloc);
-        let mut dead = Vec::new(alloc);
-        for (at, len, line) in puts {
-            put(&mut held, *at, *len, *line, &mut dead)?;
-        }
-        let found = lines(alloc, &dead)?;
-        assert_eq!(rt; found.as_slice(), want, "{name}");
-        for line in want {
-            assert!(rt; held.hold_of(piece(*line)).is_none(), "{name}");
-        }
-    }
-    Ok(())
-}
-
-#[test]
-fn both_halves_of_a_piece_are_held(rt: HostRuntime) -> Result<(), Fail> {
-    let alloc = rt.alloc();
-    let held = held_of(alloc, 0, 10, &[(20, 10, 1), (24, 2, 2)])?;
-    for (at, want) in [
-        (19, None),
-        (20, Some(1)),
-        (23, Some(1)),
-        (24, Some(2)),
-        (25, Some(2)),
-        (26, Some(1)),
-        (29, Some(1)),
-        (30, None),
-    ] {
-        assert_eq!(rt; line_at(&held, at), want, "at {at}");
-    }
-    assert!(rt; held.hold_of(piece(1)).is_some());
-    assert!(rt; held.hold_of(piece(2)).is_some());
-    assert!(rt; held.hold_of(piece(3)).is_none());
+    let mut kept: HeldSpans<MemHold, SpanList> = HeldSpans::new(alloc);
+    let mut dead = Vec::new(alloc);
+    let first = PieceId {
+        line: LineNo(3),
+        part: 0,
+    };
+    let second = PieceId {
+        line: LineNo(4),
+        part: 0,
+    };
+    let under = Frag {
+        at: 0,
+        len: 10,
+        piece: first,
+        from: 0,
+    };
+    let over = Frag {
+        at: 0,
+        len: 12,
+        piece: second,
+        from: 0,
+    };
+    kept.put(under, MemHold::new(first, 10, None), &mut dead)
+        .ok()
+        .ok_or("there is memory")?;
+    kept.put(over, MemHold::new(second, 12, None), &mut dead)
+        .ok()
+        .ok_or("there is memory")?;
+    assert_eq!(rt; lines(alloc, &dead)?.as_slice(), [3].as_slice());
+    kept.cut(5, &mut dead).ok().ok_or("there is memory")?;
+    assert_eq!(rt; dead.len(), 1);
+    assert_eq!(rt; kept.next(0), Some(Frag { len: 5, ..over }));
+    assert!(rt; kept.get(second).is_some());
+    assert!(rt; kept.get(first).is_none());
     Ok(())
 }
 
@@ -158,8 +138,79 @@ fn both_halves_of_a_piece_are_held(rt: HostRuntime) -> Result<(), Fail> {
 fn assert_stand(rt: &impl Abort, name: &str, kept: &Kept, marks: &[(u64, u32)]) {
     for (at, line) in marks {
         assert_eq!(rt; line_at(kept, *at), Some(*line), "{name}, at {at}");
-        assert!(rt; kept.hold_of(piece(*line)).is_some(), "{name}, at {at}");
+        assert!(rt; kept.get(piece(*line)).is_some(), "{name}, at {at}");
     }
+}
+
+#[test]
+fn a_hold_comes_out_with_the_last_byte_of_its_piece(rt: HostRuntime) -> Result<(), Fail> {
+    let alloc = rt.alloc();
+    for (name, puts, marks, want) in [
+        (
+            "nothing is left of it",
+            [(20, 10, 1), (20, 10, 2)].as_slice(),
+            [(20, 2), (29, 2)].as_slice(),
+            [1].as_slice(),
+        ),
+        (
+            "both halves are left",
+            &[(20, 10, 1), (24, 2, 2)],
+            &[(20, 1), (23, 1), (24, 2), (25, 2), (26, 1), (29, 1)],
+            &[],
+        ),
+        (
+            "its left half is left",
+            &[(20, 10, 1), (24, 2, 2), (26, 4, 3)],
+            &[(20, 1), (23, 1), (26, 3)],
+            &[],
+        ),
+        (
+            "its right half is left",
+            &[(20, 10, 1), (24, 2, 2), (20, 4, 3)],
+            &[(23, 3), (26, 1), (29, 1)],
+            &[],
+        ),
+        (
+            "its halves go one after the other",
+            &[(20, 10, 1), (24, 2, 2), (20, 4, 3), (26, 4, 4)],
+            &[(20, 3), (24, 2), (26, 4)],
+            &[1],
+        ),
+        (
+            "its halves go at once, and what stood between",
+            &[(20, 10, 1), (24, 2, 2), (20, 10, 3)],
+            &[(20, 3), (24, 3), (29, 3)],
+            &[1, 2],
+        ),
+        (
+            "one put takes the last bytes of two",
+            &[(0, 4, 1), (4, 4, 2), (0, 8, 3)],
+            &[(0, 3), (7, 3)],
+            &[1, 2],
+        ),
+        (
+            "its first byte is left",
+            &[(20, 10, 1), (21, 9, 2)],
+            &[(20, 1), (21, 2)],
+            &[],
+        ),
+        (
+            "its last byte is left",
+            &[(20, 10, 1), (20, 9, 2)],
+            &[(28, 2), (29, 1)],
+            &[],
+        ),
+    ] {
+        let mut dead = Vec::new(alloc);
+        let kept = held_of(alloc, 0, 10, puts, &mut dead)?;
+        let found = lines(alloc, &dead)?;
+        assert_eq!(rt; found.as_slice(), want, "{name}");
+        assert_stand(&rt, name, &kept, marks);
+        for line in want {
+            assert!(rt; kept.get(piece(*line)).is_none(), "{name}");
+        }
+    }
+    Ok(())
 }
 
 #[test]
@@ -200,9 +251,10 @@ fn all_of_a_list_is_put_over_another(rt: HostRuntime) -> Result<(), Fail> {
         ("into nothing", &[], &[(3, 2, 11)], &[(3, 11), (4, 11)], &[]),
         ("nothing", &[(3, 2, 1)], &[], &[(3, 1), (4, 1)], &[]),
     ] {
-        let mut kept = held_of(alloc, 0, 10, below)?;
-        let mut over = held_of(alloc, 10, 20, above)?;
         let mut dead = Vec::new(alloc);
+        let mut kept = held_of(alloc, 0, 10, below, &mut dead)?;
+        let mut over = held_of(alloc, 10, 20, above, &mut dead)?;
+        assert!(rt; dead.is_empty(), "{name}");
         kept.put_all(&mut over, &mut dead)
             .ok()
             .ok_or("there is memory")?;
@@ -211,7 +263,7 @@ fn all_of_a_list_is_put_over_another(rt: HostRuntime) -> Result<(), Fail> {
         assert_eq!(rt; found.as_slice(), want, "{name}");
         assert!(rt; over.is_empty(), "{name}");
         for line in 11..13 {
-            assert!(rt; over.hold_of(piece(line)).is_none(), "{name}");
+            assert!(rt; over.get(piece(line)).is_none(), "{name}");
         }
     }
     Ok(())
@@ -220,8 +272,14 @@ fn all_of_a_list_is_put_over_another(rt: HostRuntime) -> Result<(), Fail> {
 #[test]
 fn all_holds_come_out_of_a_list_that_is_cleared(rt: HostRuntime) -> Result<(), Fail> {
     let alloc = rt.alloc();
-    let mut kept = held_of(alloc, 0, 10, &[(0, 10, 1), (4, 2, 2), (30, 1, 3)])?;
     let mut dead = Vec::new(alloc);
+    let mut kept = held_of(
+        alloc,
+        0,
+        10,
+        &[(0, 10, 1), (4, 2, 2), (30, 1, 3)],
+        &mut dead,
+    )?;
     assert!(rt; !kept.is_empty());
     kept.clear(&mut dead).ok().ok_or("there is memory")?;
     let found = lines(alloc, &dead)?;
@@ -229,7 +287,7 @@ fn all_holds_come_out_of_a_list_that_is_cleared(rt: HostRuntime) -> Result<(), F
     assert!(rt; kept.is_empty());
     assert_eq!(rt; kept.next(0), None);
     for line in 1..4 {
-        assert!(rt; kept.hold_of(piece(line)).is_none());
+        assert!(rt; kept.get(piece(line)).is_none());
     }
     Ok(())
 }
@@ -240,7 +298,7 @@ fn a_table_counts_the_fragments_of_a_piece(rt: HostRuntime) -> Result<(), Fail> 
     let mut pieces = PieceTable::new(alloc);
     pieces.reserve(2).ok().ok_or("there is memory")?;
     for line in [1, 2] {
-        if pieces.hold(piece(line)).is_some() {
+        if pieces.get(piece(line)).is_some() {
             return Err("the piece is there".into());
         }
         pieces
@@ -257,9 +315,80 @@ fn a_table_counts_the_fragments_of_a_piece(rt: HostRuntime) -> Result<(), Fail> 
     one.more(piece(3));
     assert!(rt; one.less(piece(3)).is_none(), "two are left");
     assert!(rt; one.less(piece(3)).is_none(), "one is left");
-    assert!(rt; one.hold(piece(3)).is_some(), "one is left");
+    assert!(rt; one.get(piece(3)).is_some(), "one is left");
     let hold = one.less(piece(3)).ok_or("it was the last")?;
     assert_eq!(rt; hold.piece(), piece(3));
-    assert!(rt; one.hold(piece(3)).is_none(), "none is left");
+    assert!(rt; one.get(piece(3)).is_none(), "none is left");
+    Ok(())
+}
+
+#[test]
+fn a_cut_drops_the_holds_of_what_lies_behind_it(rt: HostRuntime) -> Result<(), Fail> {
+    let alloc = rt.alloc();
+    for (size, want) in [
+        (0, [1, 2, 3].as_slice()),
+        (4, &[2, 3]),
+        (5, &[3]),
+        (30, &[3]),
+        (31, &[]),
+    ] {
+        let mut dead = Vec::new(alloc);
+        let mut kept = held_of(
+            alloc,
+            0,
+            10,
+            &[(0, 10, 1), (4, 6, 2), (30, 1, 3)],
+            &mut dead,
+        )?;
+        kept.cut(size, &mut dead).ok().ok_or("there is memory")?;
+        let found = lines(alloc, &dead)?;
+        assert_eq!(rt; found.as_slice(), want, "at {size}");
+        assert_eq!(rt; kept.piece_count(), 3 - want.len(), "at {size}");
+        assert_eq!(rt; line_at(&kept, size), None, "at {size}");
+    }
+    Ok(())
+}
+
+#[test]
+fn a_hold_that_is_lent_is_changed(rt: HostRuntime) -> Result<(), Fail> {
+    let alloc = rt.alloc();
+    let mut dead = Vec::new(alloc);
+    let mut kept: Kept = HeldSpans::new(alloc);
+    let p = piece(1);
+    let f = Frag {
+        at: 0,
+        len: 5,
+        piece: p,
+        from: 0,
+    };
+    kept.put(f, MemHold::new(p, 5, Some(3)), &mut dead)
+        .ok()
+        .ok_or("there is memory")?;
+    let hold = kept.hold_of(p).ok_or("the piece is there")?;
+    let pin = hold.pin(1).ok().ok_or("there is room")?;
+    assert_eq!(rt; pin.piece(), p);
+    let hold = kept.hold_of(p).ok_or("the piece is there")?;
+    assert!(rt; hold.pin(1).is_err(), "two were taken of its room");
+    assert!(rt; hold.pin(0).is_ok(), "one is left");
+    assert!(rt; kept.hold_of(piece(2)).is_none());
+    Ok(())
+}
+
+#[test]
+fn a_put_goes_into_the_room_that_was_made(rt: HostRuntime) -> Result<(), Fail> {
+    let alloc = rt.alloc();
+    let mut dead = Vec::new(alloc);
+    let mut kept: Kept = HeldSpans::new(alloc);
+    let p = piece(1);
+    let f = Frag {
+        at: 0,
+        len: 5,
+        piece: p,
+        from: 0,
+    };
+    kept.reserve(1).ok().ok_or("there is memory")?;
+    kept.put(f, MemHold::new(p, 5, None), &mut dead).unwrap();
+    assert_eq!(rt; kept.next(0), Some(f));
+    assert_eq!(rt; kept.piece_count(), 1);
     Ok(())
 }

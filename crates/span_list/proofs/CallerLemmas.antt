@@ -1,7 +1,7 @@
 -- What a caller cites of sorted fragments and their marks: the crates above import from here alone.
 
--- the mark at each place after a put and after a cut, and before, behind and between the fragments
-pub use Rattle.span_list.proofs.Marks.{mark_at-put, mark_at-cut, mark_at-ahead, mark_at-past}
+-- the mark at each place after a put, after a cut, and of what stands from a place on; and before and behind the fragments
+pub use Rattle.span_list.proofs.Marks.{mark_at-put, mark_at-cut, mark_at-from, mark_at-ahead, mark_at-past}
 -- the list of marks after a put and after a cut
 pub use Rattle.span_list.proofs.MarkLists.{marks_within, get_or-marks, marks_of_fragments-put, marks_of_fragments-cut}
 -- what a look-up finds, and which places have no mark then

@@ -5,21 +5,48 @@
 //! over others takes their bytes away in its range; what is left of them stays. Neighbours aren't
 //! joined.
 //!
+//! `put` asks for a fragment that has a byte, ends within the longest file, and ends in its piece
+//! at a place below 2^32. It adds two fragments at most; after want of memory all is as it was.
+//! `reserve` makes room for so many more fragments, and changes none: while there is room for two,
+//! a put takes no memory.
+//!
 //! ```
+//! let piece = PieceId {
+//!     line: LineNo(1),
+//!     part: 0,
+//! };
+//! let under = Frag {
+//!     at: 0,
+//!     len: 10,
+//!     piece,
+//!     from: 0,
+//! };
+//! let over = Frag {
+//!     at: 4,
+//!     len: 2,
+//!     piece: PieceId {
+//!         line: LineNo(2),
+//!         part: 0,
+//!     },
+//!     from: 0,
+//! };
 //! let mut list = SpanList::new(alloc);
-//! list.put(Frag { at: 0, len: 10, piece, from: 0 })?;
-//! list.put(Frag { at: 4, len: 2, piece: later, from: 0 })?;
-//! // 0 to 4 of `piece`, 4 to 6 of `later`, 6 to 10 of `piece` from its place 6 on
+//! list.put(under).ok().ok_or("there is memory")?;
+//! list.put(over).ok().ok_or("there is memory")?;
+//! // 0 to 4 of `under`, 4 to 6 of `over`, 6 to 10 of `under`, from place 6 of its piece on
 //! let after = list.next(5);
+//! // the last two bytes go
 //! list.cut(8);
 //! ```
 #![tactic(auto)]
 
+mod laws;
 mod places;
 mod rests;
 mod span_list;
 mod spans;
 
+pub use laws::{look_ups_pass_no_mark, putting_and_cutting_are_by_place};
 pub use span_list::SpanList;
 pub use spans::Spans;
 

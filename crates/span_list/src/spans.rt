@@ -42,9 +42,10 @@ pub trait Spans: Sized {
     fn next(&self, at: u64) -> Option<Frag>
         ensures { result ≡ next_fragment at (fragments self.now) };
 
-    /// Makes room for so many more fragments.
+    /// Makes room for so many more fragments. It takes no memory where they fit already.
     fn reserve(&mut self, n: usize) -> Result<(), Want>
         ensures room { OnOk result (n ≤ spare self.new) }
+        ensures succeeds { n ≤ spare self.old → IsOk result }
         ensures same { fragments self.new ≡ fragments self.old }
         ensures spare { spare self.old ≤ spare self.new }
         ensures same_spare { OnErr result (spare self.new ≡ spare self.old) };

@@ -59,6 +59,41 @@ fn two(alloc: Global) -> Result<SpanList, Fail> {
 }
 
 #[test]
+fn the_example_at_the_head_of_the_crate(rt: HostRuntime) -> Result<(), Fail> {
+    let alloc = rt.alloc();
+    let piece = PieceId {
+        line: LineNo(1),
+        part: 0,
+    };
+    let under = Frag {
+        at: 0,
+        len: 10,
+        piece,
+        from: 0,
+    };
+    let over = Frag {
+        at: 4,
+        len: 2,
+        piece: PieceId {
+            line: LineNo(2),
+            part: 0,
+        },
+        from: 0,
+    };
+    let mut list = SpanList::new(alloc);
+    list.put(under).ok().ok_or("there is memory")?;
+    list.put(over).ok().ok_or("there is memory")?;
+    // 0 to 4 of `under`, 4 to 6 of `over`, 6 to 10 of `under`, from place 6 of its piece on
+    let after = list.next(5);
+    // the last two bytes go
+    list.cut(8);
+    assert_eq!(rt; after, Some(over));
+    let want = [frag(0, 4, 1, 0), frag(4, 2, 2, 0), frag(6, 2, 1, 6)];
+    assert_eq!(rt; listed(alloc, &list)?.as_slice(), want.as_slice());
+    Ok(())
+}
+
+#[test]
 fn a_put_takes_its_range_from_the_others(rt: HostRuntime) -> Result<(), Fail> {
     let alloc = rt.alloc();
     let first = frag(20, 10, 1, 3);

@@ -80,7 +80,7 @@ fn fetch_next<D: SpillDev + Drop>(t: &mut ReadTask, logs: &mut [PlainLog<D>])
     ensures logs { logs.new ≡ logs.old }
 {
     let run = t.runs[t.fetched];
-    let Some(hold) = t.pins.hold(run.piece) else {
+    let Some(hold) = t.pins.get(run.piece) else {
         unreachable!()
     };
     fetch_run(logs, hold, &run, &mut t.bytes);

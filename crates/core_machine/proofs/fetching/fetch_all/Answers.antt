@@ -1,4 +1,5 @@
-use Rattle.std.proofs.Common.{◌∙◌, sym}
+use Rattle.std.proofs.Common.{◌∙◌, ap, sym}
+use Rattle.fs_types.specs.Pieces.{Fragment}
 use Rattle.core_machine.proofs.FetchedBytes.{HasBytes-more, in_memory}
 use Rattle.core_machine.proofs.fetching.fetch_all.Goals as goal
 
@@ -9,6 +10,10 @@ fetch_run-requires-clause-held g c =
       rw (c.loop-run.invariant.logs) (need.1 c.run.inside.piece c.in-Some.hold.now (sym c.in-Some.ensures.hold)).1,
       rw (c.loop-run.invariant.logs) (in_memory need.0 c.args.logs.now c.in-Some.hold.now.rank need.2),
     )
+
+pub fetch_run-requires-clause-piece : goal.fetch_run-requires-clause-piece
+fetch_run-requires-clause-piece g c =
+    (c.requires.stand.1 c.run.inside.piece c.in-Some.hold.now (sym c.in-Some.ensures.hold)).0 ∙ ap (λ (f : Fragment). f.piece) c.run.view_is
 
 pub loop-run-preserved : goal.loop-run-preserved
 loop-run-preserved g c = record {

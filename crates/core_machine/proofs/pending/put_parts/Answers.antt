@@ -32,11 +32,11 @@ loop-hold-preserved c =
     let chunk : c.from-chunk.result ≡ c.args.s.now.shape.chunk = c.from-chunk.ensures ∙ ap (λ h. h.chunk) c.shape.ensures.shape in
     let step = next-step c.args.s.now c.args.n c.args.holds.now c.loop-hold.hold-index _ _ _ _ _ _ (omega (arith, shape.chunk_least))
     c.requires.holds c.hold-item.is c.loop-hold-test.true c.requires.new_pieces c.loop-hold.invariant.parts c.loop-hold.invariant.at
-    c.from.ensures c.in_ok-put.ensures.put in
+    c.from.ensures c.in_default.ensures.put in
     let before = c.loop-hold.invariant.dead in
-    let more = c.in_ok-put.ensures.dead in
+    let more = c.in_default.ensures.dead in
     rw add-one (record {
-      are_held = c.in_ok-put.ensures.are_held;
+      are_held = c.in_default.ensures.are_held;
       at = (λ i. c.loop-hold.invariant.at i + chunk i) ∙ grind arith;
       parts = step-parts step;
       dead = (

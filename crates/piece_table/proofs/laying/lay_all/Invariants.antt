@@ -4,7 +4,7 @@ use Rattle.fs_types.specs.Pieces.{Piece}
 use Rattle.fs_types.specs.declared.limits.TheConstants.{LONGEST_FILE}
 use Rattle.piece_table.specs.HeldSpans.{put_fragments}
 use Rattle.piece_table.specs.PieceTable.{number_of, hold_of}
-use Rattle.piece_table.specs.Ranges.{covered}
+use Rattle.piece_table.specs.Ranges.{covered, ends_under}
 use Rattle.piece_table.specs.Thinning.{Thins, ComesOut}
 use Rattle.piece_table.proofs.laying.lay_all.Given as goal
 
@@ -17,7 +17,7 @@ invariant-loop-f g l =
           ≡ put_fragments (g.S.Spans.fragments l.over) (g.S.Spans.fragments l.initial.spans);
       numbers : (q : Piece) → number_of l.pieces q ≡ fragment_count q (g.S.Spans.fragments l.spans) + fragment_count q rest;
       spare : 2 * length rest ≤ g.S.Spans.spare l.spans;
-      room : length l.pieces.entries + vec_len l.dead ≤ vec_capacity l.dead;
+      room : ends_under rest (g.S.Spans.fragments l.spans) + vec_len l.dead ≤ vec_capacity l.dead;
       thins : Thins l.initial.pieces l.pieces;
       out : ComesOut g.H.Hold.piece (hold_of l.initial.pieces) (hold_of l.pieces) l.initial.dead.items l.dead.items;
     }

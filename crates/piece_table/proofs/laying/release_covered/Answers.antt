@@ -48,6 +48,8 @@ loop-g-preserved g c =
       thins = Thins-then _ _ _ so_far.thins one.thins;
       out = ComesOut-then g.H.Hold.piece _ _ _ _ _ _ so_far.out one.out (held_before _ _ so_far.thins) (unheld_after _ _ one.thins);
       room = omega (arith, so_far.room, ap length next, one.len, one.one, one.capacity);
+      few = omega (arith, so_far.few, ap length next, one.one);
+      spare = omega (arith, so_far.spare, one.spare);
       len = omega (arith, so_far.len, one.len);
       capacity = omega (arith, so_far.capacity, one.capacity);
     }

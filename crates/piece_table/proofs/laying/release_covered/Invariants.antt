@@ -16,6 +16,8 @@ invariant-loop-g g l =
       thins : Thins l.initial.pieces l.pieces;
       out : ComesOut g.H.Hold.piece (hold_of l.initial.pieces) (hold_of l.pieces) l.initial.dead.items l.dead.items;
       room : min (length (covered l.place l.end fs)) (length l.pieces.entries) + vec_len l.dead ≤ vec_capacity l.dead;
+      few : vec_len l.dead + length (covered l.place l.end fs) ≤ vec_len l.initial.dead + length (covered l.at l.end fs);
+      spare : l.initial.pieces.spare ≤ l.pieces.spare;
       len : length l.pieces.entries + vec_len l.dead ≡ length l.initial.pieces.entries + vec_len l.initial.dead;
       capacity : vec_capacity l.initial.dead ≤ vec_capacity l.dead;
     }

@@ -7,20 +7,20 @@ use Rattle.piece_table.proofs.laying.release_one.Goals as goal
 pub returns-in-Some-clause-thins : goal.returns-in-Some-clause-thins
 returns-in-Some-clause-thins g c =
     Thins-one c.args.pieces.now c.less.new.self c.args.p c.requires.there c.less.ensures.numbers c.less.ensures.holds
-    (unnumbered _ _ c.less.new.self.entries c.less.ensures.counted)
+    (unnumbered c.less.new.self.entries c.less.ensures.counted)
 
 pub returns-in-Some-clause-out : goal.returns-in-Some-clause-out
 returns-in-Some-clause-out g c =
     let last = sym c.in-Some.ensures.last in
+    let is = sym (c.in-Some.ensures.out ∙ cond-true _ (hold_of c.args.pieces.now c.args.p) None last) in
     rw c.push_reserved.ensures.items
     (ComesOut-one c.args.pieces.now c.less.new.self c.args.p c.requires.there c.less.ensures.numbers c.less.ensures.holds
-    g.H.Hold.piece c.in-Some.hold last (sym (c.in-Some.ensures.out ∙ cond-true _ (hold_of c.args.pieces.now c.args.p) None last))
-    c.in-Some.ensures.piece c.args.dead.now.items)
+    g.H.Hold.piece c.in-Some.hold last is (c.requires.theirs c.args.p c.in-Some.hold is) c.args.dead.now.items)
 
 pub returns-in_default-clause-thins : goal.returns-in_default-clause-thins
 returns-in_default-clause-thins g c =
     Thins-one c.args.pieces.now c.less.new.self c.args.p c.requires.there c.less.ensures.numbers c.less.ensures.holds
-    (unnumbered _ _ c.less.new.self.entries c.less.ensures.counted)
+    (unnumbered c.less.new.self.entries c.less.ensures.counted)
 
 pub returns-in_default-clause-out : goal.returns-in_default-clause-out
 returns-in_default-clause-out g c =

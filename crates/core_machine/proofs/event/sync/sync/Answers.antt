@@ -22,6 +22,9 @@ returns-then-is_empty-clause-logs g c = λ r.
     })
     c.requires.1.stand c.requires.1.held
 
+pub clear-requires : goal.clear-requires
+clear-requires g c = record { are_held = c.requires.1.whole.sound.pending.are_held }
+
 pub release_all-requires-clause-held : goal.release_all-requires-clause-held
 release_all-requires-clause-held g c =
     (forgets c.args.s.now c.args.n c.requires.0 c.args.path.now c.args.path.now c.args.own.now

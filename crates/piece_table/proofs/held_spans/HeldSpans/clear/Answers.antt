@@ -1,6 +1,7 @@
 use Rattle.fs_types.proofs.Common.{◌∙◌}
 use Rattle.piece_table.specs.HeldSpans.{kept}
 use Rattle.piece_table.proofs.AllPut.{HandsOver-all, IsKept-none, cut_all}
+use Rattle.piece_table.proofs.Holds.{IsCounted-kept}
 use Rattle.piece_table.proofs.held_spans.HeldSpans.clear.Goals as goal
 
 pub returns-clause-fragments : goal.returns-clause-fragments
@@ -8,11 +9,14 @@ returns-clause-fragments g c = c.cut.ensures.cut ∙ cut_all (g.S.Spans.fragment
 
 pub invariant_of-self : goal.invariant_of-self
 invariant_of-self g c =
-    IsKept-none g.H.Hold.is_ready g.H.Hold.piece g.H.Hold.bytes (g.S.Spans.fragments c.cut.new.self) c.take_all.new.self
-    (g.met.S.Spans.are_spans c.cut.new.self) (returns-clause-fragments g c) c.take_all.ensures.emptied
+    IsCounted-kept g.H.Hold.is_ready g.H.Hold.piece g.H.Hold.bytes _
+    (IsKept-none g.H.Hold.is_ready g.H.Hold.piece g.H.Hold.bytes (g.S.Spans.fragments c.cut.new.self) c.take_all.new.self
+    (g.met.S.Spans.are_spans c.cut.new.self) (returns-clause-fragments g c) c.take_all.ensures.emptied)
 
 pub returns-clause-are_held : goal.returns-clause-are_held
-returns-clause-are_held g c = (invariant_of-self g c).are_held
+returns-clause-are_held g c =
+    (IsKept-none g.H.Hold.is_ready g.H.Hold.piece g.H.Hold.bytes (g.S.Spans.fragments c.cut.new.self) c.take_all.new.self
+    (g.met.S.Spans.are_spans c.cut.new.self) (returns-clause-fragments g c) c.take_all.ensures.emptied).are_held
 
 pub returns-clause-dead : goal.returns-clause-dead
 returns-clause-dead g c =

@@ -4,10 +4,10 @@ use Rattle.piece_table.proofs.piece_table.PieceTable.append.Goals as goal
 pub invariant_of-self-2 : goal.invariant_of-self-2
 invariant_of-self-2 g c =
     AreCounted-merged c.self.inside.pieces.entries c.other.inside.pieces.entries c.append.new.self.entries c.other.invariant.apart
-    c.in_ok-append.ensures.inserts.0 g.H.Hold.is_ready g.H.Hold.piece c.self.invariant c.other.invariant c.in_ok-append.ensures.inserts.1
+    c.in_ok-append.ensures.inserts.0 c.self.invariant c.other.invariant c.in_ok-append.ensures.inserts.1
 
 pub invariant_of-other-2 : goal.invariant_of-other-2
-invariant_of-other-2 g c = AreCounted-empty g.H.Hold.is_ready g.H.Hold.piece c.append.new.other.entries c.in_ok-append.ensures.emptied
+invariant_of-other-2 g c = AreCounted-empty c.append.new.other.entries c.in_ok-append.ensures.emptied
 
 pub returns-clause-counted : goal.returns-clause-counted
 returns-clause-counted g c = invariant_of-self-2 g c

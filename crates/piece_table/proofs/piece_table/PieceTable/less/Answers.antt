@@ -1,4 +1,4 @@
-use Rattle.fs_types.proofs.Common.{◌<◌, ap, sym, ◌∙◌, Some, None, IsTrue, subst, same_Some, ◌-◌, arith, cond, ◌==◌}
+use Rattle.fs_types.proofs.Common.{◌<◌, ap, sym, ◌∙◌, Some, None, subst, same_Some, ◌-◌, arith, cond, ◌==◌}
 use Rattle.fs_types.proofs.Common.{eq-eqb, ne_eqb}
 use Rattle.std.specs.Option.{is_some}
 use Rattle.std.specs.Map.{lookup}
@@ -14,12 +14,8 @@ invariant_of-self-then-counted-gt0 g c =
     let w : Counted g.row.H.Denot = record { number = x.number - 1; hold = x.hold } in
     let value = c.in_ok-counted.ensures.value in
     AreCounted-after c.self.inside.pieces.entries _ c.args.p (Some w) ((c.get_mut.follows.holds w).3 (ap is_some (sym value))).0
-    g.H.Hold.is_ready g.H.Hold.piece c.self.invariant (c.get_mut.follows.holds w).4
-    (λ y is. let e = same_Some _ _ is in (
-      subst (λ (y : Counted g.row.H.Denot). 0 < y.number) e c.if-counted-gt0.true,
-      subst (λ (y : Counted g.row.H.Denot). IsTrue (g.H.Hold.is_ready y.hold)) e (c.self.invariant.ready c.args.p x (sym value)),
-      ap (λ (y : Counted g.row.H.Denot). g.H.Hold.piece y.hold) (sym e) ∙ c.self.invariant.piece c.args.p x (sym value),
-    ))
+    c.self.invariant (c.get_mut.follows.holds w).4
+    (λ y is. subst (λ (y : Counted g.row.H.Denot). 0 < y.number) (same_Some _ _ is) c.if-counted-gt0.true)
 
 pub returns-then-counted-gt0-clause-numbers : goal.returns-then-counted-gt0-clause-numbers
 returns-then-counted-gt0-clause-numbers g c q =
@@ -50,7 +46,7 @@ invariant_of-self-2 g c =
     AreCounted-after c.self.inside.pieces.entries c.swap_remove.new.self.entries c.args.p None
     (updated_twice c.self.inside.pieces.entries _ _ c.args.p (Some w) None
     ((c.get_mut.follows.holds w).3 (ap is_some (sym value))).0 c.swap_remove.ensures.updates.0)
-    g.H.Hold.is_ready g.H.Hold.piece c.self.invariant c.swap_remove.ensures.unique (λ y is. absurd cc)
+    c.self.invariant c.swap_remove.ensures.unique (λ y is. absurd cc)
 
 pub returns-clause-numbers : goal.returns-clause-numbers
 returns-clause-numbers g c q =

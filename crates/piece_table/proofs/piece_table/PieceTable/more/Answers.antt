@@ -1,4 +1,4 @@
-use Rattle.fs_types.proofs.Common.{◌<◌, ap, sym, ◌∙◌, Some, IsTrue, subst, same_Some, ◌+◌, arith}
+use Rattle.fs_types.proofs.Common.{◌<◌, ap, sym, Some, subst, same_Some, ◌+◌, arith}
 use Rattle.std.specs.Option.{is_some}
 use Rattle.piece_table.specs.declared.piece_table.Counted.{Counted}
 use Rattle.piece_table.specs.PieceTable.{number_in, hold_in}
@@ -11,12 +11,8 @@ invariant_of-self-2 g c =
     let w : Counted g.row.H.Denot = record { number = x.number + 1; hold = x.hold } in
     let value = c.in-Some.ensures.value in
     AreCounted-after c.self.inside.pieces.entries _ c.args.p (Some w) ((c.get_mut.follows.holds w).3 (ap is_some (sym value))).0
-    g.H.Hold.is_ready g.H.Hold.piece c.self.invariant (c.get_mut.follows.holds w).4
-    (λ y is. let e = same_Some _ _ is in (
-      subst (λ (y : Counted g.row.H.Denot). 0 < y.number) e (omega arith),
-      subst (λ (y : Counted g.row.H.Denot). IsTrue (g.H.Hold.is_ready y.hold)) e (c.self.invariant.ready c.args.p x (sym value)),
-      ap (λ (y : Counted g.row.H.Denot). g.H.Hold.piece y.hold) (sym e) ∙ c.self.invariant.piece c.args.p x (sym value),
-    ))
+    c.self.invariant (c.get_mut.follows.holds w).4
+    (λ y is. subst (λ (y : Counted g.row.H.Denot). 0 < y.number) (same_Some _ _ is) (omega arith))
 
 pub returns-clause-numbers : goal.returns-clause-numbers
 returns-clause-numbers g c q =

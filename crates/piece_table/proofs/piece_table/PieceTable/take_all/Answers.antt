@@ -7,7 +7,7 @@ use Rattle.piece_table.proofs.piece_table.PieceTable.take_all.Goals as goal
 pub loop-counted-init : goal.loop-counted-init
 loop-counted-init g c = record {
   counted = c.self.invariant;
-  room = omega (arith, c.requires, ap (λ (t : Pieces g.row.H.Denot). length t.entries) c.self.view_is);
+  room = omega (arith, c.requires.room, ap (λ (t : Pieces g.row.H.Denot). length t.entries) c.self.view_is);
   held = λ q h is. is;
   out = ComesOut-none g.H.Hold.piece _ _ c.args.out.now.items (λ q. refl);
 }
@@ -18,16 +18,17 @@ loop-counted-preserved g c =
     let last = c.in-Some.ensures.entries in
     let updates = c.in-Some.ensures.updates.0 in
     record {
-      counted = AreCounted-taken g.H.Hold.is_ready g.H.Hold.piece _ _ c.in-Some.field-0-0 c.in-Some.counted so_far.counted last updates
+      counted = AreCounted-taken _ _ c.in-Some.field-0-0 c.in-Some.counted so_far.counted last updates
           c.pop.ensures.unique;
       room = omega (arith, so_far.room, c.in-Some.ensures.len, c.push_reserved.ensures.len, c.push_reserved.ensures.capacity);
       held = λ q h is. so_far.held q h
-          (held_rest g.H.Hold.is_ready g.H.Hold.piece _ _ c.in-Some.field-0-0 c.in-Some.counted so_far.counted last updates q h is);
+          (held_rest _ _ c.in-Some.field-0-0 c.in-Some.counted so_far.counted last updates q h is);
       out = ComesOut-then g.H.Hold.piece _ _ _ _ _ _ so_far.out (
         c.in-Some.counted.hold ∷ [],
         c.push_reserved.ensures.items,
-        AreOut-taken g.H.Hold.is_ready g.H.Hold.piece _ _ c.in-Some.field-0-0 c.in-Some.counted so_far.counted last updates,
+        AreOut-taken _ _ c.in-Some.field-0-0 c.in-Some.counted so_far.counted last updates g.H.Hold.piece
+            (λ q h is. (rw (← c.self.view_is) at c.requires.theirs) q h (so_far.held q h is)),
       )
           so_far.held
-          (unheld_rest g.H.Hold.is_ready g.H.Hold.piece _ _ c.in-Some.field-0-0 c.in-Some.counted so_far.counted last updates);
+          (unheld_rest _ _ c.in-Some.field-0-0 c.in-Some.counted so_far.counted last updates);
     }

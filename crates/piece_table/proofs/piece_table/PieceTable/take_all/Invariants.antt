@@ -12,7 +12,7 @@ invariant-loop-counted g l =
     let first = l.initial.self-inside.pieces.entries in
     let now = l.self-inside.pieces.entries in
     record {
-      counted : AreCounted g.H.Hold.is_ready g.H.Hold.piece now;
+      counted : AreCounted now;
       room : length now + vec_len l.out ≤ vec_capacity l.out;
       held : (q : Piece) (h : g.row.H.Denot) → hold_in (lookup (piece_eq q) now) ≡ Some h → hold_in (lookup (piece_eq q) first) ≡ Some h;
       out : ComesOut g.H.Hold.piece (λ q. hold_in (lookup (piece_eq q) first)) (λ q. hold_in (lookup (piece_eq q) now))
