@@ -1,0 +1,13 @@
+pub mod Paths
+pub mod Pushes
+pub mod States
+pub mod SameState
+pub mod Parts
+pub mod Pins
+pub mod Pinned
+pub mod Asked
+pub mod Named
+pub mod Lent
+pub mod HeldAnew
+pub mod CallerLemmas
+mod Cases

@@ -1,0 +1,7 @@
+pub mod Names
+pub mod Kept
+pub mod Calls
+pub mod Commits
+pub mod Journals
+pub mod Lookups
+pub mod HoldLends

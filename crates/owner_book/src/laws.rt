@@ -1,0 +1,26 @@
+//! Laws of books. Each function does nothing: its contract is the law.
+
+ghost use Rattle.std.specs.Prelude.{[], ℕ, List};
+ghost use Rattle.fs_types.specs.Pieces.{Fragment};
+ghost use Rattle.owner_book.specs.Journals.{CommittedStands, CreatedStands, LentStands, LookedStands, StandsFor};
+ghost use Rattle.owner_book.specs.Kept.{no_path};
+ghost use Rattle.owner_book.specs.Lookups.{NameRange, parts_in};
+
+use fs_types::Hold;
+
+/// A path's file is the state of its journal: the marks of its bytes are those that the lines of
+/// the journal make, in their order, from none. A look-up adds no line and keeps that so, as does
+/// whatever is left behind the loan of a hold.
+pub fn files_are_states_of_their_journals<H: Hold>()
+    ensures none { StandsFor [] (no_path {H = H}) }
+    ensures created { CreatedStands H }
+    ensures committed { CommittedStands H.piece }
+    ensures looked { LookedStands H.Hold }
+    ensures lent { LentStands H }
+{}
+
+/// What a look-up finds names exactly the marked bytes of its range: at each place of the range the
+/// parts have the mark that the file's fragments have there, and at no other place any.
+pub fn lookups_name_the_marks_of_their_range()
+    ensures { (from to : ℕ) (fs : List Fragment) → NameRange from to fs (parts_in from to fs) }
+{}

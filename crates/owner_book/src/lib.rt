@@ -1,0 +1,80 @@
+//! The files that one server owns: for each path the journal of the lines that were committed to
+//! it, and the file that they make. A file is kept as fragments of pieces, with one hold for each
+//! piece that they name; the bytes themselves are elsewhere. The crate touches nothing outside
+//! memory.
+//!
+//! A book is generic over its holds, which can be of any type that meets `Hold` of `fs_types`, and
+//! over what keeps the fragments, which can be any type that meets `Spans` of `span_list`.
+//!
+//! **Paths.** Each call names a path by its gfid and its text together, so two paths with one gfid
+//! are two files. A path's version is the number of lines in its journal. Calls on one path leave
+//! every other as it is.
+//!
+//! **Calls.** Each but `new` takes a path, and asks and gives this:
+//!
+//! - `new` gives a book in which nothing was committed to any path.
+//! - `create` makes an empty file where there is none, and gives the version.
+//! - `commit` asks that the path has its holds, `HasHolds`, and for a push that may be committed,
+//!   `MayCommit`. It puts the push over the file: its fragments in order, with the holds of the
+//!   pieces that they name. It gives the version, what is told of the file, and the holds of
+//!   exactly those pieces of which no byte is left in the file.
+//! - `lookup` asks that the path has its holds, `HasHolds`. It gives the version, what is told of
+//!   the file, the fragments of a range, cut to it, and a pin of each piece that they name, once; a
+//!   piece whose hold has no room for a pin is `bare` in its place. A pin takes 1 from the room of
+//!   its hold, if that room has an end.
+//! - `open` gives the version and what is told of the file, where there is one, and `attr` gives
+//!   both in any case. The fragments of a file end within its size. `journal` gives the lines.
+//! - `hold_of` lends the hold of one piece, to read or to change, or gives none where the file
+//!   doesn't name the piece.
+//!
+//! **Refusals.** `BookNo` says why a call is refused, by the path's own file and version: it exists,
+//! there is none, it is frozen, or, where none of these holds, memory ran out. After a refusal the
+//! book is as before, and a push comes back; only a `lookup` that ran out of memory may have lowered
+//! the rooms of holds in its range, each by no more than one pin takes.
+//!
+//! **What a caller owes.** `HasHolds` says of a path that each piece of its file, and no other, has
+//! a hold that is ready, of that piece, and as long as the fragments need. That is so in a new book,
+//! each call that asks it leaves it so, and `proofs/CallerLemmas.antt` has the lemmas that carry it
+//! for all paths. `MayCommit` says of a push that it is well formed, which is one hold for each
+//! piece that its fragments name, and fragments that lie in their pieces, in order and apart; that
+//! its holds are ready; and that its pieces are new to the file.
+//!
+//! **Laws.** A file is the state of its journal: each byte bears the mark that its lines make, in
+//! their order; a look-up and a lent hold keep that so. A look-up names exactly the marked bytes of
+//! its range.
+//!
+//! An example:
+//!
+//! ```
+//! let mut book: OwnerBook<MemHold, SpanList> = OwnerBook::new(alloc)?;
+//! book.create(alloc, 7, &path, LineNo(2))?;
+//! let piece = PieceId { line: LineNo(4), part: 0 };
+//! let mut push = Push { frags: Vec::new(alloc), holds: Vec::new(alloc) };
+//! push.frags.push(Frag { at: 0, len: 4, piece, from: 0 })?;
+//! push.holds.push(MemHold::new(piece, 4, None))?;
+//! let done = book.commit(alloc, 7, &path, LineNo(4), push).ok().ok_or("there is memory")?;
+//! // version 2, a file of 4 bytes, and no dead hold
+//! let found = book.lookup(alloc, 7, &path, 1, 6)?;
+//! // the fragment of the piece that is 3 bytes long and begins at place 1 of the file and of the
+//! // piece, one pin of that piece, and no bare piece
+//! ```
+#![tactic(auto)]
+
+mod book;
+mod book_no;
+mod committed;
+mod file_key;
+mod laws;
+mod looked;
+mod looking;
+mod owned_file;
+mod owned_path;
+
+pub use book::OwnerBook;
+pub use book_no::BookNo;
+pub use committed::Committed;
+pub use laws::{files_are_states_of_their_journals, lookups_name_the_marks_of_their_range};
+pub use looked::Looked;
+
+#[cfg(test)]
+mod tests;

@@ -1,0 +1,118 @@
+//! Parts of fragments in a range, the pieces that they name, and pins of those.
+
+ghost use Rattle.std.specs.Prelude.{◌≡◌, ◌++◌, ◌≤◌, ◌<◌, ◌+◌, [], ◌∷◌, All, AllPairs, Some, IsSome, IfOk, OnOk, OnErr, IfSome, MatchOption, length, vec_len, vec_capacity, false, true};
+ghost use Rattle.fs_types.specs.Fragments.{end_of, piece_eq};
+ghost use Rattle.piece_table.specs.HeldSpans.{AreHeld, held};
+ghost use Rattle.owner_book.specs.Lookups.{Asks, AsksOne, MayAsk, Pins, is_one_of, parts_in, pieces_named};
+
+use fs_types::{Frag, Hold, PieceId, PinNo, Want};
+use indexmap::IndexSet;
+use piece_table::HeldSpans;
+use span_list::Spans;
+use std::alloc::Global;
+
+// What of the first fragment with bytes in a range stands there, if any does.
+fn next_part<H: Hold + Drop, S: Spans>(held: &HeldSpans<H, S>, from: u64, to: u64) -> Option<Frag>
+    ensures next { MatchOption result (parts_in from to held.now.fragments ≡ [])
+        (λ f. parts_in from to held.now.fragments ≡ f ∷ parts_in (end_of f) to held.now.fragments) }
+    ensures forward { IfSome result (λ f. from < end_of f) }
+    ensures within { IfSome result (λ f. end_of f ≤ to) }
+{
+    let f = held.next(from)?;
+    let at = f.at.max(from);
+    if to <= at {
+        return None;
+    }
+    Some(Frag {
+        at,
+        len: to.min(f.at + f.len) - at,
+        piece: f.piece,
+        from: f.from + (at - f.at) as u32,
+    })
+}
+
+/// What stands of fragments in a range.
+pub fn parts<H: Hold + Drop, S: Spans>(
+    alloc: Global,
+    held: &HeldSpans<H, S>,
+    from: u64,
+    to: u64,
+) -> Result<Vec<Frag>, Want>
+    ensures { IfOk result (λ v. v.items ≡ parts_in from to held.now.fragments) }
+{
+    let mut parts = Vec::new(alloc);
+    let mut at = from;
+    while let Some(part) = next_part(held, at, to) {
+        at = part.at + part.len;
+        parts.push(part)?;
+    }
+    Ok(parts)
+}
+
+/// The pieces that fragments name, each once.
+pub fn pieces(alloc: Global, frags: &[Frag]) -> Result<IndexSet<PieceId>, Want>
+    ensures { IfOk result (λ set. set.keys ≡ pieces_named frags.now) }
+{
+    let mut pieces = IndexSet::new(alloc);
+    for f in frags {
+        pieces.insert(f.piece)?;
+    }
+    Ok(pieces)
+}
+
+// Pins a piece, or notes that it is bare, where there is room for either.
+fn pin_one<H: Hold + Drop, S: Spans>(
+    kept: &mut HeldSpans<H, S>,
+    p: PieceId,
+    holds: &mut Vec<H>,
+    bare: &mut Vec<PieceId>,
+) -> Result<(), Want>
+    requires held { AreHeld H.is_ready H.piece H.bytes (held kept.old) }
+    requires there { IsSome ((held kept.old).hold_of p) }
+    requires room { vec_len holds.old < vec_capacity holds.old }
+    requires room_bare { vec_len bare.old < vec_capacity bare.old }
+    ensures asks { OnOk result (AsksOne H.Hold p (held kept.old) (held kept.new)
+        holds.old.items holds.new.items bare.old.items bare.new.items) }
+    ensures room { OnOk result ((vec_len holds.new ≤ vec_len holds.old + 1)
+        × (vec_len bare.new ≤ vec_len bare.old + 1)) }
+    ensures capacity { (vec_capacity holds.old ≤ vec_capacity holds.new)
+        × (vec_capacity bare.old ≤ vec_capacity bare.new) }
+    ensures may_ask { OnErr result (MayAsk H.Hold (p ∷ []) (held kept.old) (held kept.new)) }
+    ensures held { AreHeld H.is_ready H.piece H.bytes (held kept.new) }
+{
+    let Some(hold) = kept.hold_of(p) else {
+        unreachable!();
+    };
+    match hold.pin(0) {
+        Ok(pin) => holds.push_reserved(pin),
+        Err(PinNo::NoRoom) => bare.push_reserved(p),
+        Err(PinNo::Want) => return Err(Want),
+    }
+    Ok(())
+}
+
+/// Pins the pieces, of which each is there once, where there is room for all. After want of memory
+/// some of them have been asked for pins.
+pub fn pin_all<H: Hold + Drop, S: Spans>(
+    kept: &mut HeldSpans<H, S>,
+    pieces: &[PieceId],
+    holds: &mut Vec<H>,
+    bare: &mut Vec<PieceId>,
+) -> Result<(), Want>
+    requires held { AreHeld H.is_ready H.piece H.bytes (held kept.old) }
+    requires there { All (λ q. IsSome ((held kept.old).hold_of q)) pieces.now }
+    requires once { AllPairs (λ p q. piece_eq p q ≡ false) pieces.now }
+    requires none { (holds.old.items ≡ []) × (bare.old.items ≡ []) }
+    requires room { length pieces.now ≤ vec_capacity holds.old }
+    requires room_bare { length pieces.now ≤ vec_capacity bare.old }
+    ensures pins { OnOk result
+        (Pins H.Hold (held kept.old) pieces.now holds.new.items bare.new.items) }
+    ensures asks { OnOk result (Asks H.Hold pieces.now (held kept.old) (held kept.new)) }
+    ensures may_ask { OnErr result (MayAsk H.Hold pieces.now (held kept.old) (held kept.new)) }
+    ensures held { AreHeld H.is_ready H.piece H.bytes (held kept.new) }
+{
+    for p in pieces {
+        pin_one(kept, *p, holds, bare)?;
+    }
+    Ok(())
+}

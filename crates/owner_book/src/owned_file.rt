@@ -1,0 +1,137 @@
+//! A file at its owner.
+
+ghost use Rattle.std.specs.Prelude.{◌≡◌, IfOk, IfErr, OnOk, OnErr, IsTrue, All, None, ◌≤◌, ◌+◌};
+ghost use Rattle.std.specs.Borrow.{sem};
+ghost use Rattle.std.specs.Option.{option_copied_mut};
+ghost use Rattle.fs_types.specs.Fragments.{IsWellFormedPush};
+ghost use Rattle.fs_types.specs.declared.limits.TheConstants.{LONGEST_FILE};
+ghost use Rattle.piece_table.specs.HeldSpans.{AreGone, AreHeld};
+ghost use Rattle.owner_book.specs.Commits.{size_after, with_push};
+ghost use Rattle.owner_book.specs.Kept.{AreWithin, attr_of, empty_file, file_of};
+ghost use Rattle.owner_book.specs.HoldLends.{lends_in_file};
+ghost use Rattle.owner_book.specs.Lookups.{Asks, MayAsk, Pins, parts_in, pieces_named};
+
+use crate::looked::Found;
+use crate::looking::{parts, pieces, pin_all};
+use fs_types::{Attr, Frag, Hold, PieceId, Push, Want};
+use piece_table::HeldSpans;
+use span_list::Spans;
+use std::alloc::Global;
+use std::marker::Model;
+
+/// A file: the fragments of pieces that its bytes are of, and how many bytes it has.
+#[derive(Drop)]
+pub struct OwnedFile<H: Hold, S: Spans> {
+    pub held: HeldSpans<H, S>,
+    pub size: u64,
+    pub frozen: bool,
+}
+
+impl<H: Hold, S: Spans> Model for OwnedFile<H, S> {
+    ghost use Rattle.owner_book.specs.Kept.{FileKept, AreWithin};
+
+    ghost Value = { FileKept H };
+
+    ghost view = { λ f. record { size = f.size; frozen = f.frozen; kept = f.held } };
+
+    ghost invariant = { λ f. AreWithin f.size f.held.fragments };
+}
+
+// How many bytes a file has once these fragments were put into one of so many.
+fn size_after(size: u64, frags: &[Frag]) -> u64
+    requires { All (λ f. f.at + f.len ≤ LONGEST_FILE) frags.now }
+    ensures { result ≡ size_after size frags.now }
+{
+    let mut size = size;
+    for f in frags {
+        size = size.max(f.at + f.len);
+    }
+    size
+}
+
+impl<H: Hold + Drop, S: Spans> OwnedFile<H, S> {
+    /// An empty file. It takes no memory.
+    pub fn new(alloc: Global) -> OwnedFile<H, S>
+        ensures { file_of result ≡ empty_file }
+    {
+        OwnedFile {
+            held: HeldSpans::new(alloc),
+            size: 0,
+            frozen: false,
+        }
+    }
+
+    /// What is told of the file beside its bytes. Its fragments end within it.
+    pub fn attr(&self) -> Attr
+        ensures attr { result ≡ attr_of self.now }
+        ensures within { AreWithin self.now.size self.now.kept.fragments }
+    {
+        Attr {
+            exists: true,
+            size: self.size,
+            frozen: self.frozen,
+        }
+    }
+
+    /// Puts a push over the file, and gives the holds of the pieces of which no byte is left. After
+    /// want of memory the file is as before, and the push is given back.
+    pub fn put(&mut self, alloc: Global, push: Push<H>) -> Result<Vec<H>, (Want, Push<H>)>
+        requires held { AreHeld H.is_ready H.piece H.bytes (file_of self.old).held }
+        requires well_formed { IsWellFormedPush H.piece H.bytes push }
+        requires ready { All (λ h. IsTrue (H.is_ready h)) push.holds.items }
+        requires new_pieces { All (λ h. (file_of self.old).held.hold_of (H.piece h) ≡ None)
+            push.holds.items }
+        ensures put { OnOk result (file_of self.new ≡ with_push H.piece push (file_of self.old)) }
+        ensures dead { IfOk result (λ dead. AreGone H.piece (file_of self.old).held
+            (file_of self.new).held dead.items) }
+        ensures given_back { IfErr result (λ e. e.1 ≡ push) }
+        ensures same { OnErr result (file_of self.new ≡ file_of self.old) }
+        ensures held { AreHeld H.is_ready H.piece H.bytes (file_of self.new).held }
+    {
+        let size = size_after(self.size, &push.frags);
+        let mut dead = Vec::new(alloc);
+        self.held.put_push(push, &mut dead)?;
+        self.size = size;
+        Ok(dead)
+    }
+
+    /// The parts of the file in a range, and a pin of each piece that they name, or the piece alone
+    /// where its hold has no room for one. After want of memory some of those holds may have been
+    /// asked for pins.
+    pub fn look(&mut self, alloc: Global, off: u64, len: u64) -> Result<Found<H>, Want>
+        requires held { AreHeld H.is_ready H.piece H.bytes (file_of self.old).held }
+        ensures frags { IfOk result (λ found. found.frags.items
+            ≡ parts_in off (off + len) (file_of self.old).held.fragments) }
+        ensures pins { IfOk result (λ found. Pins H.Hold (file_of self.old).held
+            (pieces_named found.frags.items) found.holds.items found.bare.items) }
+        ensures asks { IfOk result (λ found. Asks H.Hold (pieces_named found.frags.items)
+            (file_of self.old).held (file_of self.new).held) }
+        ensures may_ask { OnErr result (MayAsk H.Hold
+            (pieces_named (parts_in off (off + len) (file_of self.old).held.fragments))
+            (file_of self.old).held (file_of self.new).held) }
+        ensures size { (file_of self.new).size ≡ (file_of self.old).size }
+        ensures frozen { (file_of self.new).frozen ≡ (file_of self.old).frozen }
+        ensures held { AreHeld H.is_ready H.piece H.bytes (file_of self.new).held }
+    {
+        // No fragment ends behind the longest file, so an end that is cut off leaves out none.
+        let frags = parts(alloc, &self.held, off, off.saturating_add(len))?;
+        let pieces = pieces(alloc, &frags)?;
+        let mut holds = Vec::with_capacity(alloc, pieces.len())?;
+        let mut bare = Vec::with_capacity(alloc, pieces.len())?;
+        pin_all(&mut self.held, pieces.as_slice(), &mut holds, &mut bare)?;
+        Ok(Found { frags, holds, bare })
+    }
+
+    /// The hold of a piece that the file names, to change. What is left behind the reference is the
+    /// hold of the piece then; all else stays.
+    pub fn hold_of(&mut self, id: PieceId) -> Option<&mut H>
+        ensures* writes_back { sem 𝓛
+            (lends_in_file H.row S.row H.Hold S.Spans self.entry id result) }
+        ensures hold { option_copied_mut result ≡ (file_of self.old).held.hold_of id }
+    {
+        let Some(hold) = self.held.hold_of(id) else {
+            return None;
+        };
+        Some(hold)
+    }
+}

@@ -1,0 +1,193 @@
+//! A path at its owner.
+
+ghost use Rattle.std.specs.Prelude.{◌≡◌, ◌+◌, length, None, IfErr, IfOk, IfSome, OnOk, OnErr};
+ghost use Rattle.std.specs.Borrow.{sem};
+ghost use Rattle.std.specs.Option.{option_copied_mut};
+ghost use Rattle.owner_book.specs.Kept.{AreWithin, held_at, no_path, path_of};
+ghost use Rattle.owner_book.specs.Calls.{AnswersBy, attr, change_refusal, create_refusal, created, opened, version};
+ghost use Rattle.owner_book.specs.Commits.{AreDead, HasHolds, MayCommit, committed};
+ghost use Rattle.owner_book.specs.HoldLends.{lends_in_path};
+ghost use Rattle.owner_book.specs.Lookups.{Asks, IsLooked, MayAsk, Pins, lookup_refusal, parts_in, pieces_named};
+
+use crate::book_no::BookNo;
+use crate::committed::Committed;
+use crate::looked::{Found, Looked};
+use crate::owned_file::OwnedFile;
+use fs_types::{Attr, Hold, LineNo, PieceId, Push, Version};
+use span_list::Spans;
+use std::alloc::Global;
+use std::marker::Model;
+
+/// The lines that were committed to a path, and its file.
+#[derive(Drop)]
+pub struct OwnedPath<H: Hold, S: Spans> {
+    /// In the owner's order.
+    pub journal: Vec<LineNo>,
+    /// `None` where there is no file.
+    pub file: Option<OwnedFile<H, S>>,
+}
+
+impl<H: Hold, S: Spans> Model for OwnedPath<H, S> {
+    ghost use Rattle.owner_book.specs.Kept.{PathKept};
+
+    ghost Value = { PathKept H };
+
+    ghost view = { λ x. record { journal = x.journal.items; file = x.file } };
+}
+
+/// What is told of a path that has no file.
+pub const NO_FILE: Attr = Attr {
+    exists: false,
+    size: 0,
+    frozen: false,
+};
+
+impl<H: Hold + Drop, S: Spans + Drop> OwnedPath<H, S> {
+    /// A path to which nothing was committed. It takes no memory.
+    pub fn new(alloc: Global) -> OwnedPath<H, S>
+        ensures { path_of result ≡ no_path }
+    {
+        OwnedPath {
+            journal: Vec::new(alloc),
+            file: None,
+        }
+    }
+
+    /// The lines that were committed.
+    pub fn journal(&self) -> &[LineNo]
+        ensures { result.now ≡ self.now.journal }
+    {
+        &self.journal
+    }
+
+    /// How many lines were committed.
+    pub fn version(&self) -> Version
+        ensures { result ≡ length self.now.journal }
+    {
+        Version(self.journal.len() as u64)
+    }
+
+    /// What is told of the file beside its bytes. Its fragments end within it.
+    pub fn attr(&self) -> Attr
+        ensures attr { result ≡ attr (path_of self.now) }
+        ensures within { IfSome (path_of self.now).file
+            (λ f. AreWithin f.size f.held.fragments) }
+    {
+        match &self.file {
+            Some(file) => file.attr(),
+            None => NO_FILE,
+        }
+    }
+
+    /// The version with what is told of the file, or that there is none.
+    pub fn open(&self) -> Result<(Version, Attr), BookNo>
+        ensures { result ≡ opened (path_of self.now) }
+    {
+        let version = self.version();
+        let attr = self.attr();
+        if !attr.exists {
+            return Err(BookNo::NoEnt(version));
+        }
+        Ok((version, attr))
+    }
+
+    /// Commits a line that makes an empty file.
+    pub fn create(&mut self, alloc: Global, line: LineNo) -> Result<Version, BookNo>
+        ensures answer { AnswersBy (λ no. no) (create_refusal (path_of self.old)) result }
+        ensures version { IfOk result (λ v. v ≡ version (path_of self.new)) }
+        ensures created { OnOk result (path_of self.new ≡ created line (path_of self.old)) }
+        ensures same { OnErr result (path_of self.new ≡ path_of self.old) }
+    {
+        if self.attr().exists {
+            return Err(BookNo::Exists(self.version()));
+        }
+        self.journal.reserve(1)?;
+        self.journal.push_reserved(line);
+        self.file = Some(OwnedFile::new(alloc));
+        Ok(self.version())
+    }
+
+    /// Commits a line that puts a push over the file. After a refusal the path is as before, and the
+    /// push is given back.
+    pub fn commit(
+        &mut self,
+        alloc: Global,
+        line: LineNo,
+        push: Push<H>,
+    ) -> Result<Committed<H>, (BookNo, Push<H>)>
+        requires holds { HasHolds H.is_ready H.piece H.bytes (path_of self.old) }
+        requires push { MayCommit H.is_ready H.piece H.bytes push (path_of self.old) }
+        ensures answer { AnswersBy (λ e. e.0) (change_refusal (path_of self.old)) result }
+        ensures version { IfOk result (λ c. c.v ≡ version (path_of self.new)) }
+        ensures attr { IfOk result (λ c. c.attr ≡ attr (path_of self.new)) }
+        ensures committed { OnOk result
+            (path_of self.new ≡ committed H.piece line push (path_of self.old)) }
+        ensures dead { IfOk result (λ c. AreDead H.piece (path_of self.old) (path_of self.new)
+            c.dead.items) }
+        ensures given_back { IfErr result (λ e. e.1 ≡ push) }
+        ensures same { OnErr result (path_of self.new ≡ path_of self.old) }
+        ensures holds { HasHolds H.is_ready H.piece H.bytes (path_of self.new) }
+    {
+        let version = self.version();
+        let Some(file) = &mut self.file else {
+            return Err((BookNo::NoEnt(version), push));
+        };
+        if file.frozen {
+            return Err((BookNo::ReadOnly(version), push));
+        }
+        if self.journal.reserve(1).is_err() {
+            return Err((BookNo::Want, push));
+        }
+        match file.put(alloc, push) {
+            Ok(dead) => {
+                self.journal.push_reserved(line);
+                Ok(Committed {
+                    v: Version(self.journal.len() as u64),
+                    attr: file.attr(),
+                    dead,
+                })
+            }
+            Err((_, push)) => Err((BookNo::Want, push)),
+        }
+    }
+
+    /// Looks up a range of the file, and pins the pieces of which bytes stand there.
+    pub fn lookup(&mut self, alloc: Global, off: u64, len: u64) -> Result<Looked<H>, BookNo>
+        requires holds { HasHolds H.is_ready H.piece H.bytes (path_of self.old) }
+        ensures answer { AnswersBy (λ no. no) (lookup_refusal (path_of self.old)) result }
+        ensures version { IfOk result (λ found. found.v ≡ version (path_of self.old)) }
+        ensures attr { IfOk result (λ found. found.attr ≡ attr (path_of self.old)) }
+        ensures frags { IfOk result (λ found. found.frags.items
+            ≡ parts_in off (off + len) (held_at (path_of self.old)).fragments) }
+        ensures pins { IfOk result (λ found. Pins H.Hold (held_at (path_of self.old))
+            (pieces_named found.frags.items) found.holds.items found.bare.items) }
+        ensures looked { IfOk result (λ found. IsLooked
+            (Asks H.Hold (pieces_named found.frags.items)) (path_of self.old) (path_of self.new)) }
+        ensures may_ask { OnErr result (IsLooked (MayAsk H.Hold
+            (pieces_named (parts_in off (off + len) (held_at (path_of self.old)).fragments)))
+            (path_of self.old) (path_of self.new)) }
+        ensures holds { HasHolds H.is_ready H.piece H.bytes (path_of self.new) }
+    {
+        let v = self.version();
+        let Some(file) = &mut self.file else {
+            return Err(BookNo::NoEnt(v));
+        };
+        let Found { frags, holds, bare } = file.look(alloc, off, len)?;
+        Ok(Looked {
+            v,
+            attr: file.attr(),
+            frags,
+            holds,
+            bare,
+        })
+    }
+
+    /// The hold of a piece that the file names, to change.
+    pub fn hold_of(&mut self, id: PieceId) -> Option<&mut H>
+        ensures* writes_back { sem 𝓛
+            (lends_in_path H.row S.row H.Hold S.Spans self.entry id result) }
+        ensures hold { option_copied_mut result ≡ (held_at (path_of self.old)).hold_of id }
+    {
+        self.file.as_mut()?.hold_of(id)
+    }
+}
