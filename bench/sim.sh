@@ -2,7 +2,8 @@
 # Times `sim 0` on jobs of growing sizes, and prints for each how many microseconds and how many read
 # bytes come to a line, how the time of a line grew from the size before it, and how many MiB of memory
 # the program had at most. A growth of 1.00 is in proportion to the job. The memory is measured by the
-# command /usr/bin/time of GNU; where that isn't there, none is printed.
+# command /usr/bin/time of GNU; where that isn't there, none is printed. It fails where a line's time
+# grows by more than 1.3, or where the program has more than 64 MiB, or 32 for the largest log.
 #
 # usage: bench/sim.sh [PROGRAM]     PROGRAM: the program to time, in place of the one built here
 set -eu
@@ -185,31 +186,48 @@ check_report() {
     fi
 }
 
-# Times a job of these sizes.
+# What a job is held to is said, and counted where it isn't so.
+failed=0
+hold_to() {
+    local what=$1 found=$2 most=$3
+    if [ "$found" != - ] && awk -v found="$found" -v most="$most" 'BEGIN { exit !(found > most) }'; then
+        echo "sim.sh: $what is $found, and is to be at most $most" >&2
+        failed=$((failed + 1))
+    fi
+}
+
+# Times a job of these sizes: from the first to the second the time of a line may grow by this at
+# most, and the program may have so many MiB.
 times() {
-    local job=$1 before=0 lines took bytes
-    shift
+    local job=$1 grows=$2 room=$3 before=0 lines took bytes growth memory
+    shift 3
     printf '\n%s\n%8s %14s %18s %16s %8s %8s\n' "$job" lines microseconds microseconds/line 'bytes read/line' growth MiB
     for lines in "$@"; do
         "$job" "$lines" >"$work/job"
         took=$(shortest "$work/job")
         check_report
         bytes=$(awk '/^L .* n=[0-9]* (hex|md5)=/ { split($5, n, "="); sum += n[2] } END { print sum + 0 }' "$work/report")
-        awk -v lines="$lines" -v took="$took" -v bytes="$bytes" -v before="$before" -v peak="$(peak "$work/job")" 'BEGIN {
-            growth = before == 0 ? "-" : sprintf("%.2f", took / lines / before)
+        memory=$(peak "$work/job")
+        growth=$(awk -v lines="$lines" -v took="$took" -v before="$before" 'BEGIN {
+            printf "%s", before == 0 ? "-" : sprintf("%.2f", took / lines / before)
+        }')
+        awk -v lines="$lines" -v took="$took" -v bytes="$bytes" -v growth="$growth" -v peak="$memory" 'BEGIN {
             printf "%8d %14d %18.2f %16.2f %8s %8s\n", lines, took, took / lines, bytes / lines, growth, peak
         }'
+        hold_to "the growth of $job to $lines lines" "$growth" "$grows"
+        hold_to "the memory of $job in MiB" "$memory" "$room"
         before=$(awk -v lines="$lines" -v took="$took" 'BEGIN { print took / lines }')
     done
 }
 
-times one_client 1000 2000 4000 8000
-# In each of these the time of a line is to grow at most 1.3 from the first size to the second, and the
-# last two are to have at most 64 MiB. The last job of `reuse` has 60,000 writes, that of `pieces` 20,000 reads.
-times phases 8000 60000
-times reuse 8000 60000 65010
-times pieces 8000 60600
+times one_client 1.3 64 1000 2000 4000 8000
+# The last job of `reuse` has 60,000 writes, that of `pieces` 20,000 reads.
+times phases 1.3 64 8000 60000
+times reuse 1.3 64 8000 60000 65010
+times pieces 1.3 64 8000 60600
 
-# This one is to have at most 32 MiB.
 largest_log >"$work/job"
-printf '\nlargest_log\n%s MiB\n' "$(peak "$work/job")"
+memory=$(peak "$work/job")
+printf '\nlargest_log\n%s MiB\n' "$memory"
+hold_to 'the memory of largest_log in MiB' "$memory" 32
+exit "$((failed > 0))"

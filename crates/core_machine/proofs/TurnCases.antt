@@ -1,6 +1,6 @@
 -- Whose turn it may be in a job of two clients with a barrier between their lines, worked out by hand; and phases that don't begin.
-use Rattle.fs_types.proofs.Common.{◌≡◌, ◌≤◌, [], ◌∷◌, Some, None, refl, arith, recursion_from_All}
-use Rattle.core_machine.specs.Vocabulary.{Places, IsLeast, next_in, going}
+use Rattle.fs_types.proofs.Common.{◌≡◌, [], ◌∷◌, Some, None, refl, arith}
+use Rattle.core_machine.specs.Vocabulary.{IsInPhase, Places, next_in, going}
 use Rattle.core_machine.proofs.TwoClients.{two_clients}
 
 -- client 1 has a line, which is of a later phase
@@ -37,9 +37,9 @@ none_left_to_first = refl
 none_left_to_second : next_in end 1 ≡ None
 none_left_to_second = refl
 
--- where the next lines are of phases 5 and 2, phase 5 doesn't begin, nor does the one after phase 2
-not_the_latest : IsLeast (5 ∷ 2 ∷ []) 5 → ⊥
-not_the_latest is = let low = (recursion_from_All (λ x. 5 ≤ x) (5 ∷ 2 ∷ []) is.least).1.0 in omega (arith, low)
+-- at first phase 1 hasn't begun, since client 0's next line is of phase 0; and after that line no later one than phase 1 begins
+not_begun : IsInPhase (record { job = two_clients; places = 0 ∷ 0 ∷ []; phase = 1 }) → ⊥
+not_begun is = let low = is.none_earlier 0 2 refl in omega (arith, low)
 
-not_the_one_after : IsLeast (5 ∷ 2 ∷ []) 3 → ⊥
-not_the_one_after is = let low = (recursion_from_All (λ x. 3 ≤ x) (5 ∷ 2 ∷ []) is.least).1.0 in omega (arith, low)
+not_skipped : IsInPhase (record { job = two_clients; places = 1 ∷ 0 ∷ []; phase = 2 }) → ⊥
+not_skipped is = let low = is.none_earlier 1 5 refl in omega (arith, low)

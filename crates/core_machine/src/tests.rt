@@ -257,7 +257,7 @@ fn is_of(file: &FileState, len: u64, digest: &[u8; 16]) -> bool {
 }
 
 #[test]
-fn a_piece_has_its_slot_until_the_last_read_of_it_ends(rt: HostRuntime) -> Result<(), Fail> {
+fn slots_are_held_as_is_said_after_each_event(rt: HostRuntime) -> Result<(), Fail> {
     let alloc = rt.alloc();
     for case in &[OVERWRITTEN, FULL, TWO_READERS, THREE_FETCHES] {
         let script = script_of(alloc, case.script)?;

@@ -15,7 +15,7 @@ use Rattle.core_machine.specs.LegalSoFar.{HasClients, CanRun, Reaches}
 use Rattle.core_machine.specs.RunLaws.{RunsAreLegal}
 use Rattle.core_machine.specs.MomentReport.{report_of}
 use Rattle.core_machine.proofs.Legal.Reached.{Reaches-job, Reaches-unspent}
-use Rattle.core_run.specs.PickedRun.{after_turn_of, chosen, moment_after, pick_at, turn_of, turns_under, IsRunUnder, IsReportUnder}
+use Rattle.core_run.specs.PickedRun.{after_turn_of, chosen, moment_after, pick_at, turns_of, turns_under, IsRunUnder, IsReportUnder}
 
 -- a run and one more turn
 pub Reaches-push : (m n : Moment) (turns : List Turn) (t : Turn) → Reaches m turns n → Contains (ready n) t.client → Reaches m (turns
@@ -39,7 +39,7 @@ ready-chosen picks k r m is =
 
 -- a run and one more turn, if a client has it
 Reaches-turn : (m n : Moment) (turns : List Turn) (o : Option ℕ) → ((r : ℕ) → o ≡ Some r → Contains (ready n) r)
-    → Reaches m turns n → Reaches m (turns ++ turn_of o) (after_turn_of n o)
+    → Reaches m turns n → Reaches m (turns ++ turns_of o) (after_turn_of n o)
 Reaches-turn m n turns None waits run = subst (λ ts. Reaches m ts n) (sym (append-nil turns)) run
 Reaches-turn m n turns (Some r) waits run = Reaches-push m n turns (record { client = r }) run (waits r refl)
 

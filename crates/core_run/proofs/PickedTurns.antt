@@ -9,7 +9,7 @@ use Rattle.core_machine.specs.LegalSoFar.{CanRun, Reaches}
 use Rattle.core_machine.specs.Moment.{Moment, printed, ready}
 use Rattle.core_machine.specs.RunLaws.{AnswersWereGiven, GivenAnswersStand}
 use Rattle.core_machine.specs.Step.{Turn, step}
-use Rattle.core_run.specs.PickedRun.{IsReportUnder, chosen, moment_after, pick_at, picked, turn_of, turns_under}
+use Rattle.core_run.specs.PickedRun.{IsReportUnder, chosen, moment_after, pick_at, picked, turns_of, turns_under}
 use Rattle.core_run.specs.RunUnderLaws.{MomentsAreReached, WasAnswered}
 use Rattle.core_run.proofs.FirstMoments.{one_first}
 use Rattle.core_run.proofs.OneReport.{stays}
@@ -55,7 +55,7 @@ pub record IsChosen (picks : List ℕ) (m : Moment) (k : ℕ) (before : List Tur
 IsChosen-last : (picks : List ℕ) (m : Moment) (k : ℕ) (before after : List Turn) (t : Turn)
     → ((bs more : List Turn) → turns_under picks m k ≡ bs ++ t ∷ more → IsChosen picks m k bs t)
     → (o : Option ℕ) → chosen picks k (moment_after picks m k) ≡ o
-    → turns_under picks m k ++ turn_of o ≡ before ++ t ∷ after → IsChosen picks m (suc k) before t
+    → turns_under picks m k ++ turns_of o ≡ before ++ t ∷ after → IsChosen picks m (suc k) before t
 IsChosen-last picks m k before after t below None is all =
     let at = below before after (sym (append-nil (turns_under picks m k)) ∙ all) in
     record { events = at.events; within = (let less = at.within in omega arith); earlier = at.earlier; turn = at.turn }
@@ -83,12 +83,12 @@ turn-stands picks m k r (suc n) turn within =
     elim (eq-or-lt_of_le least) [
       | inl last ↦ (
         [],
-        ap (λ j. turns_under picks m j ++ turn_of (chosen picks j (moment_after picks m j))) (sym last)
-            ∙ ap (λ o. turns_under picks m k ++ turn_of o) turn,
+        ap (λ j. turns_under picks m j ++ turns_of (chosen picks j (moment_after picks m j))) (sym last)
+            ∙ ap (λ o. turns_under picks m k ++ turns_of o) turn,
       )
       | inr later ↦
           let before = turn-stands picks m k r n turn later in
-          let more = turn_of (chosen picks n (moment_after picks m n)) in (
+          let more = turns_of (chosen picks n (moment_after picks m n)) in (
             before.0 ++ more,
             ap (λ ts. ts ++ more) before.1 ∙ append_assoc (turns_under picks m k) (record { client = r } ∷ before.0) more,
           )
@@ -126,41 +126,44 @@ module _ {picks : List ℕ} {s : Job} {R : Report} (k : ℕ) (a : Answer) (reach
       let comes = one-moment m was.then (moment_after picks m at.events) (turns_under picks m at.events)
       (subst (λ ts. Reaches m ts was.then) at.earlier was.reaches) (reached picks m at.events) in
       record {
-        first = m;
-        begins = under.begins;
-        events = at.events;
-        then = was.then;
-        comes = comes;
-        op = was.op;
-        is = was.is;
-        turn = ap (chosen picks at.events) comes ∙ at.turn;
-        next = was.next;
+        event = record {
+          first = m;
+          begins = under.begins;
+          events = at.events;
+          then = was.then;
+          comes = comes;
+          op = was.op;
+          is = was.is;
+          turn = ap (chosen picks at.events) comes ∙ at.turn;
+          next = was.next;
+        };
         gives = was.gives;
       }
 
   -- and one that came so is in the report
   pub is-reported : GivenAnswersStand → CanRun s → WasAnswered picks s k a → answers_of R k ≡ Some a
   is-reported stand can was =
-      let first = one_first s was.first m was.begins under.begins in
-      let comes = was.comes ∙ ap (λ (x : Moment). moment_after picks x was.events) first in
-      let r = was.op.rank in
-      let turn = ap (chosen picks was.events) (sym comes) ∙ was.turn in
+      let event = was.event in
+      let first = one_first s event.first m event.begins under.begins in
+      let comes = event.comes ∙ ap (λ (x : Moment). moment_after picks x event.events) first in
+      let r = event.op.rank in
+      let turn = ap (chosen picks event.events) (sym comes) ∙ event.turn in
       let ended : ready (moment_after picks m end) ≡ [] = ap ready (sym under.run.goes) ∙ under.run.ended in
-      let early : was.events < end = elim (cases_lt was.events end) [
+      let early : event.events < end = elim (cases_lt event.events end) [
         | inl less ↦ less
-        | inr late ↦ absurd (none-chosen picks was.events r (moment_after picks m was.events)
-            (ap ready (stays picks m end was.events ended late) ∙ ended) turn)
+        | inr late ↦ absurd (none-chosen picks event.events r (moment_after picks m event.events)
+            (ap ready (stays picks m end event.events ended late) ∙ ended) turn)
       ] in
-      let rest = turn-stands picks m was.events r end turn early in
+      let rest = turn-stands picks m event.events r end turn early in
       sym said ∙ stand s m under.last (turns_under picks m end) k a can under.begins reaches (record {
-        before = turns_under picks m was.events;
+        before = turns_under picks m event.events;
         after = rest.0;
-        then = was.then;
-        op = was.op;
+        then = event.then;
+        op = event.op;
         all = rest.1;
-        reaches = subst (λ (x : Moment). Reaches m (turns_under picks m was.events) x) (sym comes) (reached picks m was.events);
-        waits = ready-chosen picks was.events r was.then was.turn;
-        next = was.next;
-        is = was.is;
+        reaches = subst (λ (x : Moment). Reaches m (turns_under picks m event.events) x) (sym comes) (reached picks m event.events);
+        waits = ready-chosen picks event.events r event.then event.turn;
+        next = event.next;
+        is = event.is;
         gives = was.gives;
       })

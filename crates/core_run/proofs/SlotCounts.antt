@@ -1,14 +1,19 @@
--- How often each slot is held at each moment of a job of two clients under picks, worked out by hand: the second client's read
--- looks up what it shows before the first client writes over it, and fetches it afterwards.
+-- How often each slot of the first client's log is held at each moment of a job of two clients under picks, worked out by hand: the
+-- second client's read looks up what it shows before the first client writes over it, and fetches it afterwards.
 use Rattle.std.proofs.Common.{◌≡◌, [], ◌∷◌, List, ℕ, zero, suc, Option, Some, None, false, map, refl, sym, ap, subst, ◌∙◌, arith, Contains}
 use Rattle.std.proofs.lemmas.Option.{same_Some}
-use Rattle.fs_types.proofs.Common.{none-some}
+use Rattle.fs_types.proofs.Common.{codes, none-some}
 use Rattle.fs_script.specs.declared.line.OpLine.{OpLine}
 use Rattle.fs_script.specs.Vocabulary.{ArePaths, Job, Piece, op_at}
-use Rattle.fs_script.proofs.CallerLemmas.{path_a}
+use Rattle.fs_types.specs.declared.answer.Answer.TheVariants as answers
+use Rattle.fs_script.specs.declared.line.Data.TheVariants.{Text}
+use Rattle.fs_script.specs.declared.line.Op.TheVariants as ops
+use Rattle.fs_script.proofs.CallerLemmas.{on_a, path_a}
+use Rattle.core_machine.specs.Step.{Turn}
 use Rattle.core_machine.specs.Moment.{IsFirst, Moment, fresh_client, ready}
 use Rattle.core_machine.proofs.SlotCases.Jobs.{holds, job_with, writes_bar}
-use Rattle.core_run.specs.PickedRun.{moment_after}
+use Rattle.core_run.specs.PickedRun.{moment_after, turns_under}
+use Rattle.core_run.specs.RunUnderLaws.{WasAnswered}
 
 abbrev three_free : List (Option Piece)
 three_free = None ∷ None ∷ None ∷ []
@@ -67,6 +72,30 @@ starts = record {
 
 abbrev picks : List ℕ
 picks = 0 ∷ 0 ∷ 0 ∷ 1 ∷ 1 ∷ 0 ∷ 0 ∷ 0 ∷ 0 ∷ 0 ∷ []
+
+abbrev turn : ℕ → Turn
+turn r = record { client = r }
+
+-- the turns that the picks choose up to the look-up; the last two are client 1's
+turns_so_far : turns_under picks start 5 ≡ turn 0 ∷ turn 0 ∷ turn 0 ∷ turn 1 ∷ turn 1 ∷ []
+turns_so_far = refl
+
+-- line 3 is answered by the second event, and takes one slot
+abc_was_written : WasAnswered picks job 3 (answers.Wrote 1)
+abc_was_written = record {
+  event = record {
+    first = start;
+    begins = starts;
+    events = 1;
+    then = moment_after picks start 1;
+    comes = refl;
+    op = on_a (ops.Write 0 (Text (codes "abc")));
+    is = refl;
+    turn = refl;
+    next = refl;
+  };
+  gives = refl;
+}
 
 -- how often the slots of client 0 are held after so many events
 abbrev held_after : ℕ → List ℕ

@@ -15,6 +15,10 @@ pick_at picks k = unwrap_or (slice_get picks (k % length picks)) 0
 abbrev pub picked : ℕ → List ℕ → Option ℕ
 picked pick clients = slice_get clients (pick % length clients)
 
+-- the client that the pick of event k chooses of those that are ready at a moment
+abbrev pub chosen : List ℕ → ℕ → Moment → Option ℕ
+chosen picks k m = picked (pick_at picks k) (ready m)
+
 -- the moment after the turn of a client; where no client has it the run stays
 abbrev pub after_turn_of : Moment → Option ℕ → Moment
 after_turn_of m None = m
@@ -23,22 +27,17 @@ after_turn_of m (Some r) = step m (record { client = r })
 -- the moment after k events of the run that begins at m, each of the client that its pick chooses of those that are ready then
 abbrev pub moment_after : List ℕ → Moment → ℕ → Moment
 moment_after picks m zero = m
-moment_after picks m (suc k) =
-    let now = moment_after picks m k in after_turn_of now (picked (pick_at picks k) (ready now))
+moment_after picks m (suc k) = let now = moment_after picks m k in after_turn_of now (chosen picks k now)
 
--- the client that the pick of event k chooses of those that are ready at a moment
-abbrev pub chosen : List ℕ → ℕ → Moment → Option ℕ
-chosen picks k m = picked (pick_at picks k) (ready m)
-
--- the turn of a client, if there is one
-abbrev pub turn_of : Option ℕ → List Turn
-turn_of None = []
-turn_of (Some r) = record { client = r } ∷ []
+-- the turn of a client, if one has it
+abbrev pub turns_of : Option ℕ → List Turn
+turns_of None = []
+turns_of (Some r) = record { client = r } ∷ []
 
 -- the turns of the first k events of the run that begins at m, as the picks choose
 abbrev pub turns_under : List ℕ → Moment → ℕ → List Turn
 turns_under picks m zero = []
-turns_under picks m (suc k) = turns_under picks m k ++ turn_of (chosen picks k (moment_after picks m k))
+turns_under picks m (suc k) = turns_under picks m k ++ turns_of (chosen picks k (moment_after picks m k))
 
 -- the run that begins at m comes to n under these picks, and ends there: no client is ready any more
 pub record IsRunUnder (picks : List ℕ) (m n : Moment) : Type 0 where

@@ -27,9 +27,9 @@ MomentsAreReached = (picks : List ℕ) (m : Moment) (k : ℕ) → Reaches m (tur
 abbrev pub JobsCanRun : Type 0
 JobsCanRun = (s : Job) → IsJob s → CanRun s
 
--- in the run of s under these picks a came as the answer to line k: after so many events the pick chose the line's client of those
--- that were ready, the line was that client's next one, and its event had this answer
-pub record WasAnswered (picks : List ℕ) (s : Job) (k : ℕ) (a : Answer) : Type 0 where
+-- line k of s had an event in its run under these picks: after so many events the pick chose the line's client of those that were
+-- ready, and the line was that client's next one
+pub record HadEvent (picks : List ℕ) (s : Job) (k : ℕ) : Type 0 where
   pub first : Moment
   pub begins : IsFirst s first
   pub events : ℕ
@@ -39,21 +39,29 @@ pub record WasAnswered (picks : List ℕ) (s : Job) (k : ℕ) (a : Answer) : Typ
   pub is : op_at s k ≡ Some op
   pub turn : chosen picks events then ≡ Some op.rank
   pub next : next_line then op.rank ≡ Some k
-  pub gives : (event_at then k op).answer ≡ Some a
 
--- the report of a run under picks has an answer to a line exactly where it came so
-abbrev pub ReportsWhatWasAnswered : Type 0
-ReportsWhatWasAnswered = (picks : List ℕ) (s : Job) (R : Report) (k : ℕ) (a : Answer)
-    → IsJob s → IsReportUnder picks s R → (answers_of R k ≡ Some a) ↔ WasAnswered picks s k a
+-- it was answered a there
+pub record WasAnswered (picks : List ℕ) (s : Job) (k : ℕ) (a : Answer) : Type 0 where
+  pub event : HadEvent picks s k
+  pub gives : (event_at event.then k event.op).answer ≡ Some a
 
--- line k was refused for want of slots in the run of s under these picks: its event was answered so, it asked for slots, and it
--- lacked them then
+-- each answer in the report of a run under picks came so
+abbrev pub ReportedWasAnswered : Type 0
+ReportedWasAnswered = (picks : List ℕ) (s : Job) (R : Report) (k : ℕ) (a : Answer)
+    → IsReportUnder picks s R → answers_of R k ≡ Some a → WasAnswered picks s k a
+
+-- and the report has each that came so
+abbrev pub AnsweredIsReported : Type 0
+AnsweredIsReported = (picks : List ℕ) (s : Job) (R : Report) (k : ℕ) (a : Answer)
+    → CanRun s → IsReportUnder picks s R → WasAnswered picks s k a → answers_of R k ≡ Some a
+
+-- line k asked for slots at an event of the run, and lacked them then
 pub record WasShortOfSlots (picks : List ℕ) (s : Job) (k needed left : ℕ) : Type 0 where
-  pub answered : WasAnswered picks s k (answers.NoSpace needed left)
-  pub asks : AsksForSlots (seen_by answered.then k answered.op) answered.op.op
-  pub lacks : LacksSlots s answered.then answered.op.rank k needed left
+  pub event : HadEvent picks s k
+  pub asks : AsksForSlots (seen_by event.then k event.op) event.op.op
+  pub lacks : LacksSlots s event.then event.op.rank k needed left
 
--- so was each line of which the report says that there was no space
-abbrev pub ReportedNoSpaceWasTrue : Type 0
-ReportedNoSpaceWasTrue = (picks : List ℕ) (s : Job) (R : Report) (k needed left : ℕ) → IsJob s → IsReportUnder picks s R
-    → answers_of R k ≡ Some (answers.NoSpace needed left) → WasShortOfSlots picks s k needed left
+-- the report says that there was no space for a line exactly where it was so short of slots
+abbrev pub NoSpaceIsReported : Type 0
+NoSpaceIsReported = (picks : List ℕ) (s : Job) (R : Report) (k needed left : ℕ) → CanRun s → IsReportUnder picks s R
+    → (answers_of R k ≡ Some (answers.NoSpace needed left)) ↔ WasShortOfSlots picks s k needed left

@@ -2,7 +2,8 @@
 
 ghost use Rattle.core_run.specs.RunUnderLaws.{OneFirstMoment, OneReportUnder};
 ghost use Rattle.core_run.specs.RunUnderLaws.{MomentsAreReached, JobsCanRun};
-ghost use Rattle.core_run.specs.RunUnderLaws.{ReportsWhatWasAnswered, ReportedNoSpaceWasTrue};
+ghost use Rattle.core_run.specs.RunUnderLaws.{ReportedWasAnswered, AnsweredIsReported};
+ghost use Rattle.core_run.specs.RunUnderLaws.{NoSpaceIsReported};
 
 use core_machine::{answers_were_given, no_space_is_exact};
 
@@ -22,16 +23,17 @@ pub fn runs_under_picks_are_reached()
 /// The report of a run under picks has an answer to a line exactly where the picks chose the line's
 /// client when the line was its next one, and the event was answered so.
 pub fn reports_say_what_was_answered()
-    ensures { ReportsWhatWasAnswered }
+    ensures answered { ReportedWasAnswered }
+    ensures reported { AnsweredIsReported }
 {
     answers_were_given();
     runs_under_picks_are_reached();
 }
 
-/// Where the report of a run under picks says of a line that there was no space, the line was a
-/// write that nothing else refused, and at its event fewer slots were left than it needed.
-pub fn reported_no_space_was_true()
-    ensures { ReportedNoSpaceWasTrue }
+/// The report of a run under picks says that there was no space for a line exactly where the line
+/// was a write that nothing else refused, and at its event fewer slots were left than it needed.
+pub fn no_space_is_reported()
+    ensures { NoSpaceIsReported }
 {
     no_space_is_exact();
     reports_say_what_was_answered();

@@ -9,7 +9,7 @@ mod run;
 
 pub use fault::RunFault;
 pub use laws::{
-    one_report_under, reported_no_space_was_true, reports_say_what_was_answered,
+    no_space_is_reported, one_report_under, reports_say_what_was_answered,
     runs_under_picks_are_reached,
 };
 pub use picks::{MULTIPLIER, PICK_COUNT, picks_of};

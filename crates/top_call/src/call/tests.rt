@@ -13,7 +13,9 @@ use super::{top, top_calm};
 use fs_dev::{CalmSource, MemSink, MemSource, NoHost};
 use fs_types::{Status, Want};
 use std::alloc::Global;
+use std::sync::Wait;
 use std::test::Fail;
+use std::thread::Threads;
 
 /// Room for all that a call of the tests writes.
 const ROOM: usize = 32_768;
@@ -28,7 +30,28 @@ fn command_words(alloc: Global, texts: &[&str]) -> Result<Vec<String>, Want> {
 }
 
 // How a call ends on an input of these bytes, and what its output took.
-fn ended(alloc: Global, texts: &[&str], bytes: &[u8]) -> Result<(Status, MemSink), Want> {
+fn ended<R: Threads + Wait + Sync>(
+    rt: &R,
+    alloc: Global,
+    texts: &[&str],
+    bytes: &[u8],
+) -> Result<(Status, MemSink), Want> {
+    let words = command_words(alloc, texts)?;
+    let mut source = CalmSource::new(Vec::from_slice(alloc, bytes)?, ROOM);
+    let mut sink = MemSink::new(alloc, ROOM, ROOM, Vec::new(alloc))?;
+    let status = top(
+        rt,
+        alloc,
+        &words,
+        &mut source,
+        &mut sink,
+        &mut NoHost::new(),
+    );
+    Ok((status, sink))
+}
+
+// The same of a call that starts no thread.
+fn ended_calm(alloc: Global, texts: &[&str], bytes: &[u8]) -> Result<(Status, MemSink), Want> {
     let words = command_words(alloc, texts)?;
     let mut source = CalmSource::new(Vec::from_slice(alloc, bytes)?, ROOM);
     let mut sink = MemSink::new(alloc, ROOM, ROOM, Vec::new(alloc))?;
@@ -39,7 +62,7 @@ fn ended(alloc: Global, texts: &[&str], bytes: &[u8]) -> Result<(Status, MemSink
 #[test]
 fn each_call_has_its_status_and_output(rt: HostRuntime) -> Result<(), Fail> {
     for (i, (texts, bytes, status, output)) in CASES.iter().enumerate() {
-        let (ends, sink) = ended(rt.alloc(), texts, bytes)?;
+        let (ends, sink) = ended(&rt, rt.alloc(), texts, bytes)?;
         assert!(rt; ends == *status && sink.bytes() == *output, "case {i}");
     }
     Ok(())
@@ -47,8 +70,13 @@ fn each_call_has_its_status_and_output(rt: HostRuntime) -> Result<(), Fail> {
 
 // Whether a job of this script prints this, and ends as a call that prints it does. A refused
 // script has its one line and no more.
-fn prints(alloc: Global, script: &[u8], output: &[u8]) -> Result<bool, Want> {
-    let (status, sink) = ended(alloc, &["sim", "0"], script)?;
+fn prints<R: Threads + Wait + Sync>(
+    rt: &R,
+    alloc: Global,
+    script: &[u8],
+    output: &[u8],
+) -> Result<bool, Want> {
+    let (status, sink) = ended(rt, alloc, &["sim", "0"], script)?;
     let wanted = match output {
         [b'r', ..] => Status::Refused,
         _ => Status::Done,
@@ -61,22 +89,22 @@ fn faults_of_a_script_are_named_in_their_order(rt: HostRuntime) -> Result<(), Fa
     let alloc = rt.alloc();
     for (headers, output) in HEADERS {
         for (i, header) in headers.iter().enumerate() {
-            assert!(rt; prints(alloc, header, output)?, "header {i}");
+            assert!(rt; prints(&rt, alloc, header, output)?, "header {i}");
         }
     }
     for (i, (header, clients, slots)) in SHAPES.iter().enumerate() {
         let output = free_slots(alloc, *clients, *slots)?;
-        assert!(rt; prints(alloc, header, output.as_bytes())?, "shape {i}");
+        assert!(rt; prints(&rt, alloc, header, output.as_bytes())?, "shape {i}");
     }
     for (i, (lines, output)) in LINES.iter().enumerate() {
         let mut script = Vec::from_slice(alloc, FOUR_CLIENTS)?;
         script.extend_from_slice(lines)?;
-        assert!(rt; prints(alloc, &script, output)?, "lines {i}");
+        assert!(rt; prints(&rt, alloc, &script, output)?, "lines {i}");
     }
     for (i, (text, byte, times, output)) in SIZES.iter().enumerate() {
         let mut script = Vec::from_slice(alloc, text)?;
         script.extend_from_slice(&vec![in alloc; *byte; *times]?)?;
-        assert!(rt; prints(alloc, &script, output)?, "size {i}");
+        assert!(rt; prints(&rt, alloc, &script, output)?, "size {i}");
     }
     Ok(())
 }
@@ -86,7 +114,7 @@ fn a_read_after_a_barrier_shows_each_sync_before_it(rt: HostRuntime) -> Result<(
     let alloc = rt.alloc();
     for (seed, output) in READ_BESIDE_SYNC_REPORTS.iter().enumerate() {
         let word = format!(in alloc; "{seed}")?;
-        let (status, sink) = ended(alloc, &["sim", &word], READ_BESIDE_SYNC)?;
+        let (status, sink) = ended(&rt, alloc, &["sim", &word], READ_BESIDE_SYNC)?;
         assert!(rt;
             status == Status::Done && sink.bytes() == *output,
             "seed {seed}"
@@ -99,7 +127,7 @@ fn a_read_after_a_barrier_shows_each_sync_before_it(rt: HostRuntime) -> Result<(
 fn each_of_many_clients_reads_the_file_of_the_next(rt: HostRuntime) -> Result<(), Fail> {
     let alloc = rt.alloc();
     let job = neighbours_job(alloc)?;
-    let (status, sink) = ended(alloc, &["sim", "5"], job.as_bytes())?;
+    let (status, sink) = ended(&rt, alloc, &["sim", "5"], job.as_bytes())?;
     assert!(rt; status == Status::Done && sink.bytes() == neighbours_report(alloc)?.as_bytes());
     Ok(())
 }
@@ -108,7 +136,7 @@ fn each_of_many_clients_reads_the_file_of_the_next(rt: HostRuntime) -> Result<()
 fn many_writes_over_one_another_take_few_slots(rt: HostRuntime) -> Result<(), Fail> {
     let alloc = rt.alloc();
     let job = overwriting_job(alloc)?;
-    let (status, sink) = ended(alloc, &["sim", "0"], job.as_bytes())?;
+    let (status, sink) = ended(&rt, alloc, &["sim", "0"], job.as_bytes())?;
     assert!(rt; status == Status::Done && sink.bytes() == overwriting_report(alloc)?.as_bytes());
     Ok(())
 }
@@ -154,7 +182,7 @@ fn nothing_is_written_where_the_second_read_fails(rt: HostRuntime) -> Result<(),
 // made do with less room. Where the call can't even be set up, nothing is shown.
 #[test]
 fn five_lines_are_reported_on_or_nothing_is_written(rt: HostRuntime) -> Result<(), Fail> {
-    let Ok((status, sink)) = ended(rt.alloc(), &["sim", "0"], FIVE_LINES) else {
+    let Ok((status, sink)) = ended_calm(rt.alloc(), &["sim", "0"], FIVE_LINES) else {
         return Ok(());
     };
     let output = match status {

@@ -115,6 +115,48 @@ S 1 held=0 free=2 faults=0
 end
 ";
 
+// Two clients read abc while client 0 commits foo over it, and then finds no slot for bar until the
+// second of them has finished.
+const READ_TWICE: &[u8] = b"unifyfs 1 servers=1 clients=3 chunk=64 shmem=2 spill=0
+0 create /unifyfs/a
+0 write /unifyfs/a 0 t:abc
+0 sync /unifyfs/a
+barrier
+0 write /unifyfs/a 0 t:foo
+0 sync /unifyfs/a
+0 write /unifyfs/a 0 t:bar
+0 write /unifyfs/a 0 t:bar
+0 write /unifyfs/a 0 t:bar
+0 write /unifyfs/a 0 t:bar
+1 open /unifyfs/a
+1 read /unifyfs/a 0 3
+2 open /unifyfs/a
+2 read /unifyfs/a 0 3
+";
+
+// Lines 8 and 9 come before and after the finish of client 1, and lines 10 and 11 before and after
+// that of client 2, all of them after the fetch of that client.
+const READ_TWICE_REPORT: &[u8] = b"L 2 ok v=1
+L 3 ok slots=1
+L 4 ok v=2
+L 6 ok slots=1
+L 7 ok v=3
+L 8 nospace need=1 free=0
+L 9 nospace need=1 free=0
+L 10 nospace need=1 free=0
+L 11 ok slots=1
+L 12 ok v=2
+L 13 ok v=2 n=3 hex=616263
+L 14 ok v=2
+L 15 ok v=2 n=3 hex=616263
+J /unifyfs/a 2 4 7
+F /unifyfs/a n=3 frozen=0 md5=acbd18db4cc2f85cedef654fccc4a4d8
+S 0 held=2 free=0 faults=0
+S 1 held=0 free=2 faults=0
+S 2 held=0 free=2 faults=0
+end
+";
+
 // Client 1 reads abXde twice, which are two runs of one piece with another between them, while
 // client 0 commits ZZ over the first of them. So a read has five events: a look-up, three fetches
 // and a finish.
@@ -188,7 +230,7 @@ S 0 held=3 free=1 faults=0
 end
 ";
 
-pub const RUNS: [Case; 11] = [
+pub const RUNS: [Case; 12] = [
     (ONE_CLIENT, &[], ONE_CLIENT_REPORT),
     (ONE_CLIENT, &[0], ONE_CLIENT_REPORT),
     (ONE_CLIENT, &[7, u32::MAX], ONE_CLIENT_REPORT),
@@ -205,6 +247,11 @@ pub const RUNS: [Case; 11] = [
         READ_HOLDS_A_SLOT,
         &[0, 0, 0, 1, 1, 0, 0, 0, 1, 1, 0],
         READ_HOLDS_A_SLOT_REPORT,
+    ),
+    (
+        READ_TWICE,
+        &[0, 0, 0, 1, 1, 2, 2, 0, 0, 1, 0, 1, 0, 1, 0, 1, 0],
+        READ_TWICE_REPORT,
     ),
     (
         THREE_RUNS,
