@@ -1,5 +1,6 @@
 pub mod PathTables
-pub mod BooksOfPaths
+pub mod OwnerFiles
+pub mod OwnersOfPaths
 pub mod Places
 pub mod Programs
 pub mod Refines
@@ -12,16 +13,11 @@ mod OtherClients
 pub mod ReadRuns
 pub mod LastRuns
 pub mod NextParts
-pub mod JoinedParts
-pub mod FoundHolds
-pub mod LookedUp
-pub mod FoundRuns
 pub mod Committed
 pub mod NamedPieces
 pub mod PutParts
 pub mod Gone
 pub mod AddedLines
-pub mod PushedPending
 mod FileCases
 pub mod HeldPieces
 pub mod PlainLists
@@ -30,14 +26,12 @@ pub mod Settled
 pub mod LetGo
 pub mod Commits
 pub mod SyncLogs
-pub mod SyncEvents
 pub mod LogSlots
 pub mod FilledParts
 pub mod FreshLogs
 pub mod Filled
 pub mod WriteLogs
 pub mod Writes
-pub mod EventsFollow
 pub mod EventsEnd
 pub mod SettledSlots
 pub mod PinnedRuns

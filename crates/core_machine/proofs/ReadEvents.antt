@@ -9,10 +9,10 @@ use Rattle.slot_plain.specs.Log.{Log}
 use Rattle.fs_script.specs.Vocabulary.{Answer, Job, Piece, at_least, runs, version_of}
 use Rattle.fs_script.specs.declared.line.Op.TheVariants as ops
 use Rattle.fs_types.specs.declared.answer.Answer.TheVariants as answers
-use Rattle.owner_book.specs.Kept.{BookFile}
+use Rattle.core_machine.specs.declared.file_spans.FileSpans.{FileSpans}
 use Rattle.core_machine.specs.declared.noted.Noted.{Noted}
-use Rattle.core_machine.specs.declared.client_path.ClientPath.{ClientPath}
-use Rattle.core_machine.specs.Kept.{OwnedPath}
+use Rattle.core_machine.specs.declared.path_state.ClientPath.{ClientPath}
+use Rattle.core_machine.specs.declared.path_state.OwnedPath.{OwnedPath}
 use Rattle.core_machine.specs.declared.plain_hold.PlainHold.{PlainHold}
 use Rattle.core_machine.specs.declared.task.ReadTask.{ReadTask}
 use Rattle.core_machine.specs.declared.task.Task.{Task}
@@ -37,8 +37,8 @@ use Rattle.core_machine.proofs.SettledSlots.{Settles-agree, Settles-more, Settle
 -- what is noted of an answer's version is the later of both, and says what is so of it
 pub record Notes (x : OwnedPath) (k : ClientPath) (t : Task) (a : Answer) (m : Noted) : Type 0 where
   pub version : m.version ≡ at_least k.noted.version (version_of a)
-  pub within : k.noted.version ≤ length x.path.journal → x.board.told.version ≤ length x.path.journal
-      → LookedUpWithin t (length x.path.journal) → m.version ≤ length x.path.journal
+  pub within : k.noted.version ≤ length x.journal.items → x.board.version ≤ length x.journal.items
+      → LookedUpWithin t (length x.journal.items) → m.version ≤ length x.journal.items
   pub known : (at : ℕ → Known) → Knows at x k → KnowsLookedUp at t → known_from m ≡ at m.version
 
 later-version : (a b : Noted) → (later_of a b).version ≡ max b.version a.version
@@ -49,11 +49,11 @@ module _ (x : OwnedPath) (k : ClientPath) where
   Notes-closed = record { version = refl; within = λ noted board looked_up. noted; known = λ at knows looked_up. knows.noted }
 
   -- the version now, at which there is no file
-  pub Notes-absent : x.path.file ≡ None → Notes x k Idle (answers.NoEnt (length x.path.journal))
-      (later_of (record { version = length x.path.journal; exists = false }) k.noted)
-  Notes-absent absent = let now : Noted = record { version = length x.path.journal; exists = false } in record {
+  pub Notes-absent : x.file ≡ None → Notes x k Idle (answers.NoEnt (length x.journal.items))
+      (later_of (record { version = length x.journal.items; exists = false }) k.noted)
+  Notes-absent absent = let now : Noted = record { version = length x.journal.items; exists = false } in record {
     version = later-version now k.noted;
-    within = λ noted board looked_up. cond_both (nat_le k.noted.version now.version) now k.noted (λ m. m.version ≤ length x.path.journal)
+    within = λ noted board looked_up. cond_both (nat_le k.noted.version now.version) now k.noted (λ m. m.version ≤ length x.journal.items)
         (λ _. omega arith) (λ _. noted);
     known = λ at knows looked_up. cond_both (nat_le k.noted.version now.version) now k.noted (λ m. known_from m ≡ at m.version)
         (λ _. rw absent at knows.now) (λ _. knows.noted);
@@ -64,7 +64,7 @@ module _ (x : OwnedPath) (k : ClientPath) where
       (later_of (record { version = t.version; exists = true }) k.noted)
   Notes-shown t bytes = let seen : Noted = record { version = t.version; exists = true } in record {
     version = later-version seen k.noted;
-    within = λ noted board looked_up. cond_both (nat_le k.noted.version seen.version) seen k.noted (λ m. m.version ≤ length x.path.journal)
+    within = λ noted board looked_up. cond_both (nat_le k.noted.version seen.version) seen k.noted (λ m. m.version ≤ length x.journal.items)
         (λ _. looked_up) (λ _. noted);
     known = λ at knows looked_up. cond_both (nat_le k.noted.version seen.version) seen k.noted (λ m. known_from m ≡ at m.version)
         (λ _. looked_up) (λ _. knows.noted);
@@ -87,13 +87,13 @@ module _ (s : Job) (n r off len : ℕ) (x : OwnedPath) (k : ClientPath) (t : Tas
       let follows : Follows s n (ops.Read off len) t (answered a) x k x l a = record {
         journal = refl;
         marks = refl;
-        told = refl;
+        board = refl;
         opened = refl;
         pending = refl;
         version = notes.version;
         within = notes.within;
         known = λ at knows looked_up. notes.known at (record { noted = knows.noted; board = knows.board; now = knows.now }) looked_up;
-        owned = λ q there. or_left (is_some (file_hold x.path.file q)) _ there;
+        owned = λ q there. or_left (is_some (file_hold x.file q)) _ there;
         pieces = λ q there. or_left _ false there;
       } in
       record {
@@ -141,30 +141,30 @@ module _ (s : Job) (n r off len : ℕ) (x : OwnedPath) (k : ClientPath) (old new
       (Settles-same (holds_kept x k Idle) old held) stand
 
   -- there is no file
-  pub EventFollows-absent : k.is_open ≡ true → x.path.file ≡ None → AreHeldSlots old → KeptStand s old x k Idle
+  pub EventFollows-absent : k.is_open ≡ true → x.file ≡ None → AreHeldSlots old → KeptStand s old x k Idle
       → EventFollows s n (ops.Read off len) r (kept x k Idle old)
-      (kept x (record k { noted = later_of (record { version = length x.path.journal; exists = false }) k.noted }) Idle old)
-      (Some (answers.NoEnt (length x.path.journal)))
+      (kept x (record k { noted = later_of (record { version = length x.journal.items; exists = false }) k.noted }) Idle old)
+      (Some (answers.NoEnt (length x.journal.items)))
   EventFollows-absent is_open absent held stand =
-      ends s n r off len x k Idle old old (answers.NoEnt (length x.path.journal)) _
+      ends s n r off len x k Idle old old (answers.NoEnt (length x.journal.items)) _
       (cond-true k.is_open _ _ is_open
-      ∙ ap (λ (f : Option (BookFile PlainHold)). lookup_over (kept_now s x k (free_in old r)) (file_marks f) (record { off = off; len = len })) absent)
+      ∙ ap (λ (f : Option FileSpans). lookup_over (kept_now s x k (free_in old r)) (file_marks f) (record { off = off; len = len })) absent)
       (Notes-absent x k absent) (Settles-same (holds_kept x k Idle) old held) stand
 
   -- a read begins
-  pub EventFollows-begun : (f : BookFile PlainHold) (t : ReadTask) → k.is_open ≡ true → x.path.file ≡ Some f → KeptStand s old x k Idle
-      → BeginsRead s f (length x.path.journal) off len t old new
+  pub EventFollows-begun : (f : FileSpans) (t : ReadTask) → k.is_open ≡ true → x.file ≡ Some f → KeptStand s old x k Idle
+      → BeginsRead s f (length x.journal.items) off len t old new
       → EventFollows s n (ops.Read off len) r (kept x k Idle old) (kept x k (Read t) new) None
   EventFollows-begun f t is_open there stand begins =
       goes_on s n r off len x k Idle old new _ (Read t)
       (cond-true k.is_open _ _ is_open
-      ∙ ap (λ (g : Option (BookFile PlainHold)). lookup_over (kept_now s x k (free_in old r)) (file_marks g) (record { off = off; len = len })) there)
+      ∙ ap (λ (g : Option FileSpans). lookup_over (kept_now s x k (free_in old r)) (file_marks g) (record { off = off; len = len })) there)
       (ap reading (sym begins.reading))
       (Settles-more (λ q. if keeps x k q then 1 else 0) no_count (pin_count t.pins) old new begins.slots)
       (record {
         files = stand.files;
         pending = stand.pending;
-        pins = λ q h is. stand.files q h (ap (λ (g : Option (BookFile PlainHold)). file_hold g q) there ∙ begins.holds q h is);
+        pins = λ q h is. stand.files q h (ap (λ (g : Option FileSpans). file_hold g q) there ∙ begins.holds q h is);
       })
 
   module _ (t : ReadTask) (task : IsReadTask s t) (stand : KeptStand s old x k (Read t)) where
@@ -204,9 +204,3 @@ pub HaveSlots-stand : (s : Job) (logs : List Log) (hold_at : Piece → Option Pl
 HaveSlots-stand s logs hold_at stand q h is =
     let one = stand q h is in
     record { held = one.1.count; stored = stored_part s h.piece; piece = one.1.piece; id = one.0 }
-
--- the same by a path's file
-pub HaveSlots-file : (s : Job) (logs : List Log) (file : Option (BookFile PlainHold)) (f : BookFile PlainHold) → file ≡ Some f
-    → HoldsStand s logs (file_hold file) → HaveSlots logs f.held.hold_of
-HaveSlots-file s logs file f is stand =
-    HaveSlots-stand s logs f.held.hold_of (subst (λ (o : Option (BookFile PlainHold)). HoldsStand s logs (file_hold o)) is stand)

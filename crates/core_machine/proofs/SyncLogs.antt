@@ -1,22 +1,22 @@
 -- A sync's part in the logs: what it lets go of, where there is no file, and where it commits what was pending.
 use Rattle.fs_types.proofs.Common.{◌≡◌, ◌+◌, ◌||◌, ◌++◌, [], ℕ, true, false, List, length, Option, Some, None, is_some, All}
-use Rattle.fs_types.proofs.Common.{All-contains, Bool, not, if◌then◌else◌}
+use Rattle.fs_types.proofs.Common.{All-contains}
 use Rattle.fs_types.proofs.Common.{refl, sym, ap, ◌∙◌, subst, inl, inr, cases_Bool, none-some, nil_from_length}
 use Rattle.std.specs.List.{AllPairs}
 use Rattle.slot_plain.specs.Log.{Log}
 use Rattle.fs_script.specs.Vocabulary.{File, Job, Mark, Piece, effect_of, has_any, marks_in, put_lines}
 use Rattle.fs_script.specs.declared.line.Op.TheVariants as ops
 use Rattle.fs_script.proofs.CallerLemmas.{some_of}
-use Rattle.piece_table.specs.HeldSpans.{AreGone, HandsOver, PutsAll, held, is_named}
+use Rattle.piece_table.specs.HeldSpans.{HandsOver, PutsAll, held, is_named}
 use Rattle.piece_table.specs.PieceTable.{hold_of}
-use Rattle.owner_book.specs.Kept.{BookFile}
-use Rattle.core_machine.specs.declared.client_path.ClientPath.{ClientPath}
-use Rattle.core_machine.specs.Kept.{OwnedPath}
+use Rattle.core_machine.specs.declared.file_spans.FileSpans.{FileSpans}
+use Rattle.core_machine.specs.declared.path_state.ClientPath.{ClientPath}
+use Rattle.core_machine.specs.declared.path_state.OwnedPath.{OwnedPath}
 use Rattle.core_machine.specs.declared.pending.Pending.{Pending}
 use Rattle.core_machine.specs.declared.plain_hold.PlainHold.{PlainHold}
 use Rattle.core_machine.specs.declared.task.Task.TheVariants.{Idle}
 use Rattle.core_machine.specs.Event.{committed_as}
-use Rattle.core_machine.specs.BookFiles.{marks_of_file}
+use Rattle.core_machine.specs.FileSpans.{marks_of_file}
 use Rattle.core_machine.specs.Follows.{EventSound, LogsSettle, kept_event}
 use Rattle.core_machine.specs.HoldsKept.{keeps}
 use Rattle.core_machine.specs.Kept.{file_hold, file_marks, pending_hold, pending_lines}
@@ -28,17 +28,14 @@ use Rattle.core_machine.proofs.Settled.{apart-gone, held-gone}
 
 -- ---- the event
 
-pub sync-event : (s : Job) (x : OwnedPath) (k : ClientPath) (f : BookFile PlainHold) (free : ℕ) → k.is_open ≡ true → x.path.file ≡ Some f
-    → f.frozen ≡ false → has_any (pending_lines k) ≡ true → kept_event s x k free Idle ops.Sync ≡ committed_as (length x.path.journal + 1)
-sync-event s x k f free opened file unfrozen any = rw (opened, file, any, unfrozen) refl
+pub sync-event : (s : Job) (x : OwnedPath) (k : ClientPath) (f : FileSpans) (free : ℕ) → k.is_open ≡ true → x.file ≡ Some f
+    → has_any (pending_lines k) ≡ true → kept_event s x k free Idle ops.Sync ≡ committed_as (length x.journal.items + 1)
+sync-event s x k f free opened file any = rw (opened, file, any) refl
 
-pub sync-marks : (s : Job) (f g : BookFile PlainHold) (q : List ℕ) → f.frozen ≡ false → g.frozen ≡ f.frozen
-    → marks_of_file g ≡ put_lines s (marks_in s) q (marks_of_file f)
+pub sync-marks : (s : Job) (f g : FileSpans) (q : List ℕ) → marks_of_file g ≡ put_lines s (marks_in s) q (marks_of_file f)
     → file_marks (Some g) ≡ effect_of s (marks_in s) ops.Sync q (file_marks (Some f))
-sync-marks s f g q unfrozen same is =
-    let whole : List (Option Mark) → Bool → File (Option Mark) = λ cells frozen. Some (record { cells = cells; frozen = frozen }) in
-    ap (λ cells. whole cells g.frozen) is ∙ ap (whole (put_lines s (marks_in s) q (marks_of_file f))) same
-    ∙ sym (ap (λ b. if not b then whole (put_lines s (marks_in s) q (marks_of_file f)) f.frozen else file_marks (Some f)) unfrozen)
+sync-marks s f g q is =
+    let with_cells : List (Option Mark) → File (Option Mark) = λ cells. Some (record { cells = cells; frozen = false }) in ap with_cells is
 
 -- ---- nothing is pending any more
 
@@ -58,8 +55,9 @@ pub record LetsGo (s : Job) (n : ℕ) (x y : OwnedPath) (k l : ClientPath) (logs
   pub apart : AllPairs (λ g h. are_of_one_slot g h ≡ false) dead
   pub settle : (r : ℕ) (new : List Log) → ReleasesAll dead logs new → LogsSettle s n r false (idle_kept x k logs) (idle_kept y l new)
 
-module _ (s : Job) (n r : ℕ) (x y : OwnedPath) (k l : ClientPath) (logs : List Log) (p : Pending) (dead : List PlainHold)
-    (sound : EventSound s n ops.Sync r (idle_kept x k logs)) (is : l.pending ≡ p) (nothing : IsNonePending p) where
+module _ (s : Job) (n r : ℕ) (x y : OwnedPath) (k l : ClientPath) (logs : List Log) (p : Pending) (before after dead : List PlainHold)
+    (sound : EventSound s n ops.Sync r (idle_kept x k logs)) (is : l.pending ≡ p) (nothing : IsNonePending p)
+    (none_before : before ≡ []) (same : dead ≡ after) where
   lets_go : (gone : List PlainHold) → gone ≡ dead → LeavesKept x y k l gone → LetsGo s n x y k l logs dead
   lets_go gone all leaves = subst (LetsGo s n x y k l logs) all (record {
     are_held = held-gone s logs gone (slots-gone s x k logs sound.stand y l gone sound.once leaves);
@@ -68,10 +66,9 @@ module _ (s : Job) (n r : ℕ) (x y : OwnedPath) (k l : ClientPath) (logs : List
   })
 
   -- where there is no file, what was pending goes
-  pub forgets : (before after : List PlainHold) → before ≡ [] → dead ≡ after → x.path.file ≡ None → y.path.file ≡ None
-      → HandsOver (λ (h : PlainHold). h.piece) (held k.pending.held) (held p.held) before after
+  pub forgets : x.file ≡ None → y.file ≡ None → HandsOver (λ (h : PlainHold). h.piece) (held k.pending.held) (held p.held) before after
       → LetsGo s n x y k l logs dead
-  forgets before after none_before same no_file still_none handed =
+  forgets no_file still_none handed =
       let gone = handed.0 in
       let kept_none : (q : Piece) → keeps y l q ≡ false =
       λ q. ap (λ f. is_some (file_hold f q) || is_some (pending_hold l q)) still_none ∙ ap is_some (emptied l p q is nothing) in
@@ -91,9 +88,11 @@ module _ (s : Job) (n r : ℕ) (x y : OwnedPath) (k l : ClientPath) (logs : List
       })
 
   -- and a commit lets go of what it puts nothing of into the file
-  pub commits : (f g : BookFile PlainHold) → x.path.file ≡ Some f → y.path.file ≡ Some g → PutsAll (held k.pending.held) f.held g.held
-      → AreGone (λ (h : PlainHold). h.piece) f.held g.held dead → LetsGo s n x y k l logs dead
-  commits f g was now puts gone =
-      lets_go dead refl
-      (leaves-committed x y k l f g was now sound.whole.sound.pending.are_held.named puts s logs dead sound.stand
-      (λ q. emptied l p q is nothing) sound.whole.sound.apart gone)
+  pub commits : (f g : FileSpans) → x.file ≡ Some f → y.file ≡ Some g
+      → PutsAll (held k.pending.held) (held f.held) (held g.held)
+      → HandsOver (λ (h : PlainHold). h.piece) (held f.held) (held g.held) before after → LetsGo s n x y k l logs dead
+  commits f g was now puts handed =
+      lets_go handed.0 (all_gone before after dead handed.0 none_before handed.1 same)
+      (leaves-committed x y k l f g was now sound.whole.sound.pending.are_held.named puts
+      s logs handed.0 sound.stand (λ q. emptied l p q is nothing)
+      sound.whole.sound.apart handed.2)

@@ -3,10 +3,9 @@ use Rattle.std.specs.Prelude.{◌≡◌, ℕ, ◌+◌, ◌-◌, ◌*◌, min, ta
 use Rattle.std.specs.Prelude.{IsSome, All, if◌then◌else◌}
 use Rattle.std.specs.List.{AllByRecursion}
 use Rattle.fs_types.specs.FragmentMarks.{mark_at, marks_of_fragments}
-use Rattle.fs_types.specs.Fragments.{IsWellFormedPush, end_of}
-use Rattle.fs_types.specs.declared.push.Push.{Push}
+use Rattle.fs_types.specs.Fragments.{end_of}
 use Rattle.fs_script.specs.Vocabulary.{LONGEST_FILE, Job, Piece, mark_of, need, part, write_at, payload, offset, marks_put}
-use Rattle.piece_table.specs.HeldSpans.{Held, held, is_named, pushed}
+use Rattle.piece_table.specs.HeldSpans.{Held, held, is_named}
 use Rattle.core_machine.specs.PlainHolds.{AreHeldPlain}
 use Rattle.core_machine.specs.declared.pending.Pending.{Pending}
 use Rattle.core_machine.specs.declared.plain_hold.PlainHold.{PlainHold}
@@ -32,12 +31,6 @@ pub record IsNonePending (q : Pending) : Type 0 where
   pub fragments : length q.held.fragments ≡ 0
   pub holds : (x : Piece) → (held q.held).hold_of x ≡ None
   pub end : q.end ≡ 0
-
--- a push of these fragments with their holds
-pub record IsPushOf (x : Held PlainHold) (push : Push PlainHold) : Type 0 where
-  pub well_formed : IsWellFormedPush (λ h. h.piece) (λ h. h.bytes) push
-  pub fragments : push.frags.items ≡ x.fragments
-  pub holds : (q : Piece) → (pushed (λ h. h.piece) push.frags.items push.holds.items).hold_of q ≡ x.hold_of q
 
 -- ---- the holds of a line's parts
 

@@ -3,17 +3,18 @@
 //! logs were given, and nothing else outside memory.
 #![tactic(auto)]
 
-mod board;
-mod books;
-mod client_path;
 mod digest;
 mod event;
 mod fetching;
+mod file_spans;
 mod file_state;
 mod laws;
 mod logs;
 mod machine;
 mod noted;
+mod owner_files;
+mod owners;
+mod path_state;
 mod path_table;
 mod pending;
 mod pins;

@@ -58,7 +58,7 @@ no_file = refl
 -- ---- pins
 
 abbrev mem : hold.Ghosts MemHold
-mem = record { is_ready = λ h. true; piece = λ h. h.piece; bytes = λ h. h.bytes; room = λ h. h.room; Place = Unit {0}; place = λ _. tt }
+mem = record { is_ready = λ h. true; piece = λ h. h.piece; bytes = λ h. h.bytes; room = λ h. h.room }
 
 abbrev hold_with : ℕ → Option ℕ → MemHold
 hold_with line room = record { piece = piece line; bytes = 8; room = room }
@@ -72,7 +72,7 @@ kept = record {
 
 like_the_first : (h : MemHold) → Some (hold_with 3 (Some 1)) ≡ Some h → IsLike mem h (hold_with 3 (Some 0))
 like_the_first h same =
-    subst (λ x. IsLike mem x (hold_with 3 (Some 0))) (same_Some (hold_with 3 (Some 1)) h same) (record { ready = refl; piece = refl; bytes = refl; place = refl })
+    subst (λ x. IsLike mem x (hold_with 3 (Some 0))) (same_Some (hold_with 3 (Some 1)) h same) (record { ready = refl; piece = refl; bytes = refl })
 
 -- the piece with room has a pin, and the one without is bare
 a_pin_and_a_bare_piece : Pins mem kept (piece 3 ∷ piece 4 ∷ []) (hold_with 3 (Some 0) ∷ []) (piece 4 ∷ [])

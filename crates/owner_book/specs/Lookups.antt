@@ -53,12 +53,11 @@ module _ {H : Type 0} (met : hold.Ghosts H) where
   abbrev pub is_bare : Held H → Piece → Bool
   is_bare x q = option_map_or (λ h. is_at_most (met.room h) 0) (x.hold_of q) false
 
-  -- a ready hold of the same piece in the same place
+  -- a ready hold of the same piece
   pub record IsLike (was now : H) : Type 0 where
     pub ready : IsTrue (met.is_ready now)
     pub piece : met.piece now ≡ met.piece was
     pub bytes : met.bytes now ≡ met.bytes was
-    pub place : met.place now ≡ met.place was
 
   -- Each of the pieces has one pin, or is bare, which it is exactly where its hold has no room for a pin.
   pub record Pins (x : Held H) (pieces : List Piece) (holds : List H) (bare : List Piece) : Type 0 where

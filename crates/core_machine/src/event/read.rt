@@ -7,30 +7,24 @@ ghost use Rattle.fs_script.specs.Fits.{body_of};
 ghost use Rattle.fs_script.specs.Job.{Job};
 ghost use Rattle.fs_script.specs.declared.line.Op.{Op};
 ghost use Rattle.core_machine.specs.Events.Read.{shows};
-ghost use Rattle.owner_book.specs.Calls.{IsAsBefore};
-ghost use Rattle.owner_book.specs.Kept.{BookFile};
-ghost use Rattle.core_machine.specs.BookFiles.{IsFile};
+ghost use Rattle.core_machine.specs.FileSpans.{IsFile};
 ghost use Rattle.core_machine.specs.Follows.{EventFollows, IsWhole, ReadSound};
-ghost use Rattle.core_machine.specs.Kept.{later_of, owned_in};
+ghost use Rattle.core_machine.specs.Kept.{later_of};
 ghost use Rattle.core_machine.specs.Logs.{AreHeldSlots, AreInMemory, AreInOneSlot, HoldsStand, slot_in};
 ghost use Rattle.core_machine.specs.Pins.{HaveSlots, no_count, pin_count};
-ghost use Rattle.core_machine.specs.Reads.{BeginsRead, IsFoundIn};
+ghost use Rattle.core_machine.specs.Reads.{BeginsRead};
 ghost use Rattle.core_machine.specs.Settling.{Settles};
 ghost use Rattle.core_machine.specs.Task.{IsReadTask, PinsRuns, reading_of};
 
-use crate::board::Board;
-use crate::books::Book;
-use crate::client_path::ClientPath;
 use crate::digest::digest;
 use crate::fetching::fetch_run;
-use crate::pins::{let_go, pin_runs, table_of};
-use crate::plain_hold::PlainHold;
-use crate::read_runs::runs_of;
+use crate::file_spans::FileSpans;
+use crate::path_state::{ClientPath, OwnedPath};
+use crate::pins::{let_go, pin_runs};
 use crate::task::{ReadTask, Task};
 use fs_dev::SpillDev;
 use fs_script::Op;
-use fs_types::{Answer, Body, HEX_LIMIT, Path, ShortBytes, Want};
-use owner_book::Looked;
+use fs_types::{Answer, Body, HEX_LIMIT, ShortBytes, Version, Want};
 use slot_plain::PlainLog;
 use std::alloc::Global;
 
@@ -44,30 +38,28 @@ fn body(bytes: &[u8]) -> Body
     }
 }
 
-// Begins to read what was found of a range of a file: pins the pieces of what it shows.
+// Looks up what a range of a file shows, and pins the pieces of that.
 fn begin<D: SpillDev + Drop>(
     alloc: Global,
-    found: Looked<PlainHold>,
+    file: &FileSpans,
+    version: Version,
     off: u64,
     len: u64,
     logs: &mut [PlainLog<D>],
 ) -> Result<ReadTask, Want>
-    requires found { (f : BookFile PlainHold) × IsFile f × IsFoundIn f off len found
-        × HaveSlots logs.old f.held.hold_of }
+    requires file { IsFile file.now }
+    requires slots { HaveSlots logs.old (hold_of file.now.held.pieces) }
     requires once { AreInOneSlot logs.old }
     requires held { AreHeldSlots logs.old }
     requires few { (r i : ℕ) → (slot_in logs.old r i).count < 2 ^ 64 - 1 }
-    ensures { (s : Job) (f : BookFile PlainHold) → IsFile f → IsFoundIn f off len found
-        → HaveSlots logs.old f.held.hold_of → IfOk result (λ t.
-        BeginsRead s f found.v off len t logs.old logs.new) }
+    ensures { (s : Job) → IfOk result (λ t.
+        BeginsRead s file.now version off len t logs.old logs.new) }
 {
-    let runs = runs_of(alloc, &found.frags, off)?;
-    let shown = len.min(found.attr.size.saturating_sub(off));
-    let bytes = vec![in alloc; 0; shown as usize]?;
-    let holds = table_of(alloc, &found.holds)?;
-    let pins = pin_runs(alloc, &holds, &runs, logs)?;
+    let runs = file.runs(alloc, off, len)?;
+    let bytes = vec![in alloc; 0; file.shown_len(off, len) as usize]?;
+    let pins = pin_runs(alloc, file, &runs, logs)?;
     Ok(ReadTask {
-        version: found.v,
+        version,
         runs,
         pins,
         fetched: 0,
@@ -121,60 +113,30 @@ fn finish<D: SpillDev + Drop>(
 }
 
 /// One event of a read of at most `len` bytes from `off` on. No answer means that the line goes on.
-/// After want of memory all that is kept is open, but what the book has.
+/// After want of memory all that is kept is open.
 pub fn read<D: SpillDev + Drop>(
     alloc: Global,
     off: u64,
     len: u64,
-    book: &mut Book,
-    gfid: u64,
-    p: &Path,
-    board: &Board,
+    path: &OwnedPath,
     own: &mut ClientPath,
     task: &mut Task,
     logs: &mut [PlainLog<D>],
 ) -> Result<Option<Answer>, Want>
-    requires sound { (s : Job) × ReadSound s (Op.Read off len) (record {
-      owned = owned_in book.old gfid p.now board.now;
-      client = own.old;
-      task = task.old;
-      logs = logs.old;
-    }) }
+    requires sound { (s : Job) × ReadSound s (Op.Read off len)
+        (record { owned = path.now; client = own.old; task = task.old; logs = logs.old }) }
     requires once { AreInOneSlot logs.old }
     requires held { AreHeldSlots logs.old }
     requires few { (q i : ℕ) → (slot_in logs.old q i).count < 2 ^ 64 - 1 }
-    ensures follows { (s : Job) (n r : ℕ) → ReadSound s (Op.Read off len) (record {
-      owned = owned_in book.old gfid p.now board.now;
-      client = own.old;
-      task = task.old;
-      logs = logs.old;
-    })
+    ensures follows { (s : Job) (n r : ℕ) → ReadSound s (Op.Read off len)
+        (record { owned = path.now; client = own.old; task = task.old; logs = logs.old })
         → IfOk result (λ a. EventFollows s n (Op.Read off len) r
-        (record {
-          owned = owned_in book.old gfid p.now board.now;
-          client = own.old;
-          task = task.old;
-          logs = logs.old;
-        })
-        (record {
-          owned = owned_in book.new gfid p.now board.now;
-          client = own.new;
-          task = task.new;
-          logs = logs.new;
-        }) a) }
-    ensures whole { (s : Job) → ReadSound s (Op.Read off len) (record {
-      owned = owned_in book.old gfid p.now board.now;
-      client = own.old;
-      task = task.old;
-      logs = logs.old;
-    })
-        → OnOk result (IsWhole s (Op.Read off len) (record {
-          owned = owned_in book.new gfid p.now board.now;
-          client = own.new;
-          task = task.new;
-          logs = logs.new;
-        })) }
-    ensures same { IsAsBefore book.old book.new }
+        (record { owned = path.now; client = own.old; task = task.old; logs = logs.old })
+        (record { owned = path.now; client = own.new; task = task.new; logs = logs.new }) a) }
+    ensures whole { (s : Job) → ReadSound s (Op.Read off len)
+        (record { owned = path.now; client = own.old; task = task.old; logs = logs.old })
+        → OnOk result (IsWhole s (Op.Read off len)
+        (record { owned = path.now; client = own.new; task = task.new; logs = logs.new })) }
 {
     if let Task::Read(t) = task {
         if t.fetched < t.runs.len() {
@@ -188,14 +150,11 @@ pub fn read<D: SpillDev + Drop>(
     if !own.is_open {
         return Ok(Some(Answer::BadF));
     }
-    let (v, attr) = book.attr(gfid, p);
-    if !attr.exists {
+    let v = path.version();
+    let Some(file) = &path.file else {
         own.note(v, false);
         return Ok(Some(Answer::NoEnt { v }));
-    }
-    let Ok(found) = book.lookup(alloc, gfid, p, off, len) else {
-        return Err(Want);
     };
-    *task = Task::Read(begin(alloc, found, off, len, logs)?);
+    *task = Task::Read(begin(alloc, file, v, off, len, logs)?);
     Ok(None)
 }

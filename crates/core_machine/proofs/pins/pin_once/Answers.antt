@@ -5,8 +5,8 @@ use Rattle.core_machine.proofs.pins.pin_once.Goals as goal
 
 pub returns : goal.returns
 returns g c =
-    let there = sym c.in-Some.ensures in
+    let there = sym c.in-Some.ensures.hold in
     let none : hold_of c.args.pins.now c.args.piece ≡ None = search rules in
-    PinsOnce-first (hold_of c.args.found.now) c.args.piece c.in-Some.hold.now c.args.pins.now c.enter.new.self c.args.logs.now
+    PinsOnce-first (hold_of c.args.file.now.held.pieces) c.args.piece c.in-Some.hold.now c.args.pins.now c.enter.new.self c.args.logs.now
     c.pin.new.logs there (c.requires.theirs c.args.piece c.in-Some.hold.now there) none
     c.in_default-enter.ensures.numbers c.in_default-enter.ensures.holds c.pin.ensures
