@@ -171,7 +171,10 @@ peak() {
         printf -- '-'
         return
     fi
-    /usr/bin/time -f %M -o "$work/peak" "$program" sim 0 <"$1" >"$work/report"
+    if ! /usr/bin/time -q -f %M -o "$work/peak" "$program" sim 0 <"$1" >"$work/report"; then
+        echo "sim.sh: the program failed" >&2
+        exit 1
+    fi
     awk '{ printf "%.1f", $1 / 1024 }' "$work/peak"
 }
 
@@ -196,8 +199,8 @@ hold_to() {
     fi
 }
 
-# Times a job of these sizes: from the first to the second the time of a line may grow by this at
-# most, and the program may have so many MiB.
+# Times a job of these sizes: from one size to the next the time of a line may grow by this at most,
+# and the program may have so many MiB, where that is measured.
 times() {
     local job=$1 grows=$2 room=$3 before=0 lines took bytes growth memory
     shift 3
@@ -228,6 +231,7 @@ times pieces 1.3 64 8000 60600
 
 largest_log >"$work/job"
 memory=$(peak "$work/job")
+[ -x /usr/bin/time ] && check_report
 printf '\nlargest_log\n%s MiB\n' "$memory"
 hold_to 'the memory of largest_log in MiB' "$memory" 32
 exit "$((failed > 0))"

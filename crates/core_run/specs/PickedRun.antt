@@ -34,7 +34,7 @@ abbrev pub turns_of : Option ℕ → List Turn
 turns_of None = []
 turns_of (Some r) = record { client = r } ∷ []
 
--- the turns of the first k events of the run that begins at m, as the picks choose
+-- the turns of the first k events of the run that begins at m, as the picks choose; past its end there are no more
 abbrev pub turns_under : List ℕ → Moment → ℕ → List Turn
 turns_under picks m zero = []
 turns_under picks m (suc k) = turns_under picks m k ++ turns_of (chosen picks k (moment_after picks m k))

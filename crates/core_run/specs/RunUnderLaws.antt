@@ -1,5 +1,5 @@
 -- The laws of runs under picks: a job has one first moment, and one report under a list of picks; such a run is one of the
--- machine, so the machine's laws hold of its moments; and what its report says was answered by an event that the picks chose.
+-- machine, so the machine's laws hold of its moments; and the answers of its report are those of events that the picks chose.
 use Rattle.std.specs.Prelude.{◌≡◌, ◌↔◌, ℕ, List, Some}
 use Rattle.fs_types.specs.declared.answer.Answer.TheVariants as answers
 use Rattle.fs_script.specs.Grammar.{IsJob}
@@ -55,7 +55,7 @@ abbrev pub AnsweredIsReported : Type 0
 AnsweredIsReported = (picks : List ℕ) (s : Job) (R : Report) (k : ℕ) (a : Answer)
     → CanRun s → IsReportUnder picks s R → WasAnswered picks s k a → answers_of R k ≡ Some a
 
--- line k asked for slots at an event of the run, and lacked them then
+-- line k, a write, asked for slots at its event, and lacked them then
 pub record WasShortOfSlots (picks : List ℕ) (s : Job) (k needed left : ℕ) : Type 0 where
   pub event : HadEvent picks s k
   pub asks : AsksForSlots (seen_by event.then k event.op) event.op.op

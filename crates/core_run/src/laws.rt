@@ -20,8 +20,9 @@ pub fn runs_under_picks_are_reached()
     ensures jobs { JobsCanRun }
 {}
 
-/// The report of a run under picks has an answer to a line exactly where the picks chose the line's
-/// client when the line was its next one, and the event was answered so.
+/// Each answer in the report of a run under picks came when the picks chose the line's client, the
+/// line was its next one, and the event was answered so; and of a job that can be run the report has
+/// each that came so.
 pub fn reports_say_what_was_answered()
     ensures answered { ReportedWasAnswered }
     ensures reported { AnsweredIsReported }
@@ -30,8 +31,9 @@ pub fn reports_say_what_was_answered()
     runs_under_picks_are_reached();
 }
 
-/// The report of a run under picks says that there was no space for a line exactly where the line
-/// was a write that nothing else refused, and at its event fewer slots were left than it needed.
+/// Of a job that can be run the report under picks says that there was no space for a line exactly
+/// where the line was a write that nothing else refused, and at its event fewer slots were left
+/// than it needed.
 pub fn no_space_is_reported()
     ensures { NoSpaceIsReported }
 {

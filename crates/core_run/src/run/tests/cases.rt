@@ -134,8 +134,8 @@ barrier
 2 read /unifyfs/a 0 3
 ";
 
-// Lines 8 and 9 come before and after the finish of client 1, and lines 10 and 11 before and after
-// that of client 2, all of them after the fetch of that client.
+// Lines 8 and 9 come before and after the finish of client 1, which has fetched by then. Lines 10
+// and 11 come so before and after the finish of client 2.
 const READ_TWICE_REPORT: &[u8] = b"L 2 ok v=1
 L 3 ok slots=1
 L 4 ok v=2
