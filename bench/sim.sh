@@ -3,7 +3,8 @@
 # bytes come to a line, how the time of a line grew from the size before it, and how many MiB of memory
 # the program had at most. A growth of 1.00 is in proportion to the job. The memory is measured by the
 # command /usr/bin/time of GNU; where that isn't there, none is printed. It fails where a line's time
-# grows by more than 1.3, or where the program has more than 64 MiB, or 32 for the largest log.
+# grows by more than 1.3 from a job's first size to its second, or where the program has more than 64
+# MiB, or 32 for the largest log.
 #
 # usage: bench/sim.sh [PROGRAM]     PROGRAM: the program to time, in place of the one built here
 set -eu
@@ -199,10 +200,10 @@ hold_to() {
     fi
 }
 
-# Times a job of these sizes: from one size to the next the time of a line may grow by this at most,
-# and the program may have so many MiB, where that is measured.
+# Times a job of these sizes: from the first to the second the time of a line may grow by this at
+# most, and the program may have so many MiB, where that is measured.
 times() {
-    local job=$1 grows=$2 room=$3 before=0 lines took bytes growth memory
+    local job=$1 grows=$2 room=$3 sizes=0 before=0 lines took bytes growth memory
     shift 3
     printf '\n%s\n%8s %14s %18s %16s %8s %8s\n' "$job" lines microseconds microseconds/line 'bytes read/line' growth MiB
     for lines in "$@"; do
@@ -217,7 +218,10 @@ times() {
         awk -v lines="$lines" -v took="$took" -v bytes="$bytes" -v growth="$growth" -v peak="$memory" 'BEGIN {
             printf "%8d %14d %18.2f %16.2f %8s %8s\n", lines, took, took / lines, bytes / lines, growth, peak
         }'
-        hold_to "the growth of $job to $lines lines" "$growth" "$grows"
+        sizes=$((sizes + 1))
+        if [ "$sizes" -eq 2 ]; then
+            hold_to "the growth of $job to $lines lines" "$growth" "$grows"
+        fi
         hold_to "the memory of $job in MiB" "$memory" "$room"
         before=$(awk -v lines="$lines" -v took="$took" 'BEGIN { print took / lines }')
     done
