@@ -1,6 +1,6 @@
--- How often each slot of the first client's log is held at each moment of a job of two clients under picks, worked out by hand: the
--- second client's read looks up what it shows before the first client writes over it, and fetches it afterwards.
-use Rattle.std.proofs.Common.{◌≡◌, [], ◌∷◌, List, ℕ, zero, suc, Option, Some, None, false, map, refl, sym, ap, subst, ◌∙◌, arith, Contains}
+-- How often each slot is held at each moment of a job of two clients under picks, worked out by hand: the second client's read
+-- looks up what it shows before the first client writes over it, and fetches it afterwards.
+use Rattle.std.proofs.Common.{◌≡◌, [], ◌∷◌, List, ℕ, zero, suc, Option, Some, None, false, map, replicate, refl, sym, ap, subst, ◌∙◌, arith, Contains}
 use Rattle.std.proofs.lemmas.Option.{same_Some}
 use Rattle.fs_types.proofs.Common.{codes, none-some}
 use Rattle.fs_script.specs.declared.line.OpLine.{OpLine}
@@ -10,7 +10,8 @@ use Rattle.fs_script.specs.declared.line.Data.TheVariants.{Text}
 use Rattle.fs_script.specs.declared.line.Op.TheVariants as ops
 use Rattle.fs_script.proofs.CallerLemmas.{on_a, path_a}
 use Rattle.core_machine.specs.Step.{Turn}
-use Rattle.core_machine.specs.Moment.{IsFirst, Moment, fresh_client, ready}
+use Rattle.core_machine.specs.Moment.{IsFirst, Moment, fresh_client, log_of, ready}
+use Rattle.core_machine.specs.Slots.{holds_in}
 use Rattle.core_machine.proofs.SlotCases.Jobs.{holds, job_with, writes_bar}
 use Rattle.core_run.specs.PickedRun.{moment_after, turns_under}
 use Rattle.core_run.specs.RunUnderLaws.{WasAnswered}
@@ -119,3 +120,10 @@ as_it_ends = refl
 
 none_ready : ready (moment_after picks start 10) ≡ []
 none_ready = refl
+
+-- the second client writes nothing, so no slot of its log is ever held
+abbrev others_after : ℕ → List ℕ
+others_after events = let m = moment_after picks start events in map (holds_in m 1) (log_of m 1)
+
+none_of_the_other : map others_after (0 ∷ 1 ∷ 2 ∷ 3 ∷ 4 ∷ 5 ∷ 6 ∷ 7 ∷ 8 ∷ 9 ∷ 10 ∷ []) ≡ replicate 11 (0 ∷ 0 ∷ 0 ∷ [])
+none_of_the_other = refl
