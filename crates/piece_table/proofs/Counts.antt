@@ -1,6 +1,6 @@
 -- How many fragments name a piece, in what a range leaves of them.
 use Rattle.fs_types.proofs.Common.{◌≡◌, ℕ, ◌+◌, ◌<◌, ◌≤◌, Bool, true, false, cond, ltb, List, [], ◌∷◌, ◌++◌, All, All-head, All-tail}
-use Rattle.fs_types.proofs.Common.{filter, flat_map}
+use Rattle.fs_types.proofs.Common.{filter, flat_map, length, length-append, ◌*◌}
 use Rattle.fs_types.proofs.Common.{arith, nat_tests, count_by-le-length, ◌||◌, lt-ltb, ltb-true, ltb-false, get_or, cases_Bool, inl, inr}
 use Rattle.fs_types.proofs.Common.{◌⊎◌, cond_both, cond-true, cond-false, sum_by-cons, refl, ap, sym, ◌∙◌}
 use Rattle.std.proofs.Common.{⊎_elim}
@@ -9,9 +9,9 @@ use Rattle.std.proofs.lemmas.List.Sums.{sum_by-append}
 use Rattle.fs_types.specs.Fragments.{end_of, piece_eq, fragment_count}
 use Rattle.fs_types.specs.Pieces.{Fragment, Piece}
 use Rattle.span_list.specs.Spans.{IsSpan, AreSpans, rest_before, rest_from, begins_from, ends_after, put_fragment}
-use Rattle.span_list.proofs.CallerLemmas.{at_rest_before, at_rest_from, before, from_on}
+use Rattle.span_list.proofs.CallerLemmas.{AreSpans-put, at_rest_before, at_rest_from, before, from_on, length-rests-le}
 use Rattle.fs_types.specs.declared.limits.TheConstants.{LONGEST_FILE}
-use Rattle.piece_table.specs.HeldSpans.{is_named}
+use Rattle.piece_table.specs.HeldSpans.{is_named, put_fragments}
 use Rattle.piece_table.proofs.Covered.{few}
 use Rattle.piece_table.proofs.Tables.{piece_eq-itself}
 use Rattle.piece_table.specs.Ranges.{covered, is_covered, reaching, reaches_past}
@@ -188,3 +188,17 @@ named_by_put q f fs span each some none =
 
 pub head_named : (f : Fragment) (fs : List Fragment) → 0 < fragment_count f.piece (f ∷ fs)
 head_named f fs = omega (arith, count-cons f.piece f fs, naming-itself f)
+
+-- fragments that are put over others are at most two more each
+pub length-put_fragments : (over fs : List Fragment) → All IsSpan over → AreSpans fs
+    → length (put_fragments over fs) ≤ length fs + 2 * length over
+length-put_fragments [] fs each spans = omega arith
+length-put_fragments (f ∷ over) fs each spans =
+    let span : IsSpan f = All-head IsSpan f over each in
+    let some = span.has_bytes in
+    omega (
+      arith,
+      length-append (flat_map (rest_before f.at) fs) (f ∷ flat_map (rest_from (end_of f)) fs),
+      length-rests-le f.at (end_of f) fs spans (omega (arith, some)),
+      length-put_fragments over (put_fragment f fs) (All-tail IsSpan f over each) (AreSpans-put f fs span spans),
+    )

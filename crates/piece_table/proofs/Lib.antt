@@ -6,6 +6,7 @@ pub mod Releases
 pub mod Moves
 pub mod Holds
 pub mod Lent
+pub mod HeldAnew
 pub mod Entered
 pub mod Ending
 mod Dropped
@@ -14,7 +15,7 @@ pub mod Pushed
 pub mod Places
 mod OnePut
 mod AllPut
-mod PushPut
+pub mod PushPut
 mod CutOff
-mod Taken
+pub mod Taken
 mod Cases

@@ -1,9 +1,10 @@
 -- The marks of fragments that were put over others: which piece stands at each place.
 use Rattle.std.specs.Option.{option_or}
+use Rattle.std.specs.Prelude.{AllPairs}
 use Rattle.fs_types.proofs.Common.{◌≡◌, ℕ, ◌<◌, true, cond, leb, ltb, List, [], ◌∷◌, Option, Some, None, refl, sym, ap, ◌∙◌, arith}
 use Rattle.fs_types.proofs.Common.{All-weaker, cases_Bool, inl, inr, cond-true, cond-false, and_parts, ltb-true, false≢true}
 use Rattle.span_list.proofs.CallerLemmas.{is_mark_of, mark_at-ahead, mark_at-put, mark-from_named, named-from_mark}
-use Rattle.span_list.proofs.CallerLemmas.{IsAhead}
+use Rattle.span_list.proofs.CallerLemmas.{AllPairs-head, AllPairs-tail, IsAhead}
 use Rattle.fs_types.specs.FragmentMarks.{is_within, mark_at, mark_within}
 use Rattle.fs_types.specs.Fragments.{end_of}
 use Rattle.fs_types.specs.Marks.{Mark}
@@ -11,19 +12,18 @@ use Rattle.fs_types.specs.Pieces.{Fragment, Piece}
 use Rattle.span_list.specs.Spans.{AreSpans, put_fragment}
 use Rattle.piece_table.specs.HeldSpans.{Held, Puts, PutsAll, is_named, put_fragments}
 use Rattle.piece_table.proofs.Counts.{named_some, some_named}
-use Rattle.piece_table.proofs.Covered.{AreSpans-ahead, AreSpans-tail}
 
 -- a place has the mark of the fragments that were put, and where they have none the mark that it had
-pub mark_at-put_fragments : (over fs : List Fragment) (k : ℕ) → AreSpans over
+pub mark_at-put_ordered : (over fs : List Fragment) (k : ℕ) → AllPairs IsAhead over
     → mark_at (put_fragments over fs) k ≡ option_or (mark_at over k) (mark_at fs k)
-mark_at-put_fragments [] fs k spans = refl
-mark_at-put_fragments (f ∷ over) fs k spans =
-    let rest = mark_at-put_fragments over (put_fragment f fs) k (AreSpans-tail f over spans) in
+mark_at-put_ordered [] fs k ordered = refl
+mark_at-put_ordered (f ∷ over) fs k ordered =
+    let rest = mark_at-put_ordered over (put_fragment f fs) k (AllPairs-tail IsAhead f over ordered) in
     elim (cases_Bool (is_within f k)) [
       | inl within ↦
           let before : k < end_of f = ltb-true k (end_of f) (and_parts (leb f.at k) (ltb k (end_of f)) within).1 in
           let none : mark_at over k ≡ None = mark_at-ahead over k
-          (All-weaker (IsAhead f) (λ g. k < g.at) (λ g ahead. omega (arith, ahead)) over (AreSpans-ahead f over spans)) in
+          (All-weaker (IsAhead f) (λ g. k < g.at) (λ g ahead. omega (arith, ahead)) over (AllPairs-head IsAhead f over ordered)) in
           rest ∙ ap (λ o. option_or o (mark_at (put_fragment f fs) k)) none ∙ mark_at-put f fs k
           ∙ cond-true _ (Some (mark_within f k)) (mark_at fs k) within
           ∙ sym (ap (λ o. option_or o (mark_at fs k)) (cond-true _ (Some (mark_within f k)) (mark_at over k) within))
@@ -31,6 +31,10 @@ mark_at-put_fragments (f ∷ over) fs k spans =
           rest ∙ ap (option_or (mark_at over k)) (mark_at-put f fs k ∙ cond-false _ (Some (mark_within f k)) (mark_at fs k) without)
           ∙ sym (ap (λ o. option_or o (mark_at fs k)) (cond-false _ (Some (mark_within f k)) (mark_at over k) without))
     ]
+
+pub mark_at-put_fragments : (over fs : List Fragment) (k : ℕ) → AreSpans over
+    → mark_at (put_fragments over fs) k ≡ option_or (mark_at over k) (mark_at fs k)
+mark_at-put_fragments over fs k spans = mark_at-put_ordered over fs k spans.in_order
 
 -- the same of what a put of one and of all gives
 pub mark_at-Puts : {H : Type 0} (f : Fragment) (h : H) (old new : Held H) (k : ℕ) → Puts f h old new

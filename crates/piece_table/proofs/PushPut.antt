@@ -1,18 +1,18 @@
 -- A push that was put over fragments with holds.
 use Rattle.fs_types.proofs.Common.{◌≡◌, ℕ, ◌+◌, ◌^◌, ◌<◌, Bool, true, List, Option, Some, None, IsTrue, is_some, refl, sym, ap, ◌∙◌, arith}
-use Rattle.fs_types.proofs.Common.{All, false≢true}
+use Rattle.fs_types.proofs.Common.{All, cond-true, false≢true, get_or}
 use Rattle.std.specs.List.{find}
 use Rattle.std.specs.Option.{option_or}
 use Rattle.fs_types.specs.Fragments.{AreHeldFragments, fragment_count, held_pieces}
 use Rattle.fs_types.specs.Pieces.{Fragment, Piece}
 use Rattle.fs_types.specs.declared.limits.TheConstants.{LONGEST_FILE}
-use Rattle.piece_table.specs.HeldSpans.{AreHeld, HandsOver, Kept, PutsAll, held, kept, pushed, put_fragments}
+use Rattle.piece_table.specs.HeldSpans.{AreHeld, HandsOver, Held, Kept, PutsAll, held, is_named, kept, pushed, put_fragments}
 use Rattle.piece_table.specs.PieceTable.{AreTheirs, Pieces, number_of, hold_of}
 use Rattle.piece_table.specs.Thinning.{Thins, ComesOut}
 use Rattle.piece_table.proofs.AllPut.{HandsOver-put_all, IsKept-put_all, PutsAll-laid, merged_theirs, merged_unheld}
 use Rattle.piece_table.proofs.Entered.{is_of}
 use Rattle.piece_table.proofs.Holds.{IsKept}
-use Rattle.piece_table.proofs.Pushed.{find-All, find-passes, pushed_held}
+use Rattle.piece_table.proofs.Pushed.{find-All, find-own, find-passes, holds_named, pushed_held}
 use Rattle.piece_table.proofs.Tables.{same_piece}
 
 module _ {H : Type 0} (is_ready : H → Bool) (piece : H → Piece) (bytes : H → ℕ) (old : Kept H)
@@ -62,3 +62,12 @@ module _ {H : Type 0} (is_ready : H → Bool) (piece : H → Piece) (bytes : H �
     HandsOver-push =
         HandsOver-put_all is_ready piece bytes old (pushed piece frags holds) is_kept over_held apart merged merges laid fs put
         laid_numbers thins
+
+-- the holds of a push that was put are those of its pieces
+pub own_holds : {H : Type 0} (is_ready : H → Bool) (piece : H → Piece) (bytes : H → ℕ) (old new : Held H) (frags : List Fragment)
+    (holds : List H) → AreHeldFragments LONGEST_FILE frags (held_pieces piece bytes holds) → PutsAll (pushed piece frags holds) old new
+    → All (λ h. new.hold_of (piece h) ≡ Some h) holds
+own_holds is_ready piece bytes old new frags holds well puts k d inside =
+    let q : Piece = piece (get_or holds k d) in
+    puts.holds q ∙ cond-true (is_named frags q) _ _ (holds_named piece bytes is_ready frags holds well k d inside)
+    ∙ find-own piece bytes is_ready frags holds well k d inside

@@ -1,18 +1,19 @@
 -- A push as fragments with the holds of the pieces that they name.
 use Rattle.fs_types.proofs.Common.{◌≡◌, ℕ, ◌+◌, ◌^◌, ◌<◌, ◌≤◌, Bool, true, false, cond, List, [], ◌∷◌, Option, Some, None, IsTrue, is_some}
 use Rattle.fs_types.proofs.Common.{refl, sym, ap, ◌∙◌, subst, arith}
-use Rattle.fs_types.proofs.Common.{All, All-head, All-tail, count_by, get_or, take, map, cases_Bool, cases_lt, cond_both, cond-true}
-use Rattle.fs_types.proofs.Common.{cond-false, inl, inr}
+use Rattle.fs_types.proofs.Common.{All, All-head, All-tail, All-weaker, count_by, get_or, take, map, cases_Bool, cases_lt, cond_both, cond-true}
+use Rattle.fs_types.proofs.Common.{cond-false, inl, inr, zero, suc}
 use Rattle.fs_types.proofs.Common.{sum_by-cons, get_or-map, get_or-take, length-map, length-take, false≢true, same_Some}
 use Rattle.std.specs.List.{find, AllPairs}
 use Rattle.std.proofs.lemmas.List.Sums.{sum_by_more_le}
 use Rattle.fs_types.specs.Fragments.{AreHeldFragments, HeldPiece, LiesWithin, fragment_count, held_pieces, hold_count, piece_eq}
 use Rattle.fs_types.specs.Pieces.{Fragment, Piece}
 use Rattle.fs_types.specs.declared.limits.TheConstants.{LONGEST_FILE}
+use Rattle.span_list.proofs.CallerLemmas.{AllPairs-tail}
 use Rattle.span_list.specs.Spans.{AreSpans}
 use Rattle.piece_table.specs.HeldSpans.{AreHeld, LiesIn, is_named, pushed}
 use Rattle.piece_table.specs.PieceTable.{Pieces, number_of}
-use Rattle.piece_table.proofs.Counts.{All-named, count-cons, named_none, named_some}
+use Rattle.piece_table.proofs.Counts.{All-named, count-cons, named_none, named_some, some_named}
 use Rattle.piece_table.proofs.Discounted.{times}
 use Rattle.piece_table.proofs.Entered.{AreApart, is_of}
 use Rattle.piece_table.proofs.Tables.{piece_eq-itself, same_piece}
@@ -62,6 +63,16 @@ of_named P (f ∷ fs) all q some = elim (cases_Bool (piece_eq f.piece q)) [
       (omega (arith, some, count-cons q f fs, cond-false {A = ℕ} (piece_eq f.piece q) 1 0 other))
 ]
 
+-- of holds of different pieces each is the one that is found of its piece
+find-apart : {H : Type 0} (piece : H → Piece) (hs : List H) → AllPairs (AreApart piece) hs
+    → All (λ h. find (is_of piece (piece h)) hs ≡ Some h) hs
+find-apart piece [] apart k d inside = absurd (omega arith)
+find-apart piece (g ∷ hs) apart zero d inside = cond-true (piece_eq (piece g) (piece g)) (Some g) _ (piece_eq-itself (piece g))
+find-apart piece (g ∷ hs) apart (suc k) d inside =
+    let q : Piece = piece (get_or hs k d) in
+    cond-false (piece_eq (piece g) q) (Some g) (find (is_of piece q) hs) (apart 0 (suc k) d (omega arith) inside)
+    ∙ find-apart piece hs (AllPairs-tail (AreApart piece) g hs apart) k d (omega (arith, inside))
+
 module _ {H : Type 0} (piece : H → Piece) (bytes : H → ℕ) where
   -- the same of holds
   pub of_held : (P : Piece → Type 0) (hs : List H) → All (λ h. P (piece h)) hs → (q : Piece) → 0 < count_by (is_of piece q) hs → P q
@@ -103,6 +114,10 @@ module _ {H : Type 0} (piece : H → Piece) (bytes : H → ℕ) where
     hold_named = of_held (λ p. 0 < fragment_count p frags) holds
         (All-from_held (λ h. 0 < fragment_count h.piece frags) holds well.named)
 
+    -- so what holds of the piece of each hold holds of each piece that is named
+    pub of_named_held : (P : Piece → Type 0) → All (λ h. P (piece h)) holds → (q : Piece) → is_named frags q ≡ true → P q
+    of_named_held P all q named = of_held P holds all q (omega (arith, one_hold q (named_some q frags named)))
+
     -- no two holds are of one piece
     pub holds_apart : AllPairs (AreApart piece) holds
     holds_apart i j d below within = elim (cases_Bool (piece_eq (piece (get_or holds i d)) (piece (get_or holds j d)))) [
@@ -120,6 +135,15 @@ module _ {H : Type 0} (piece : H → Piece) (bytes : H → ℕ) where
           let no : ⊥ = omega (arith, last, first, upto, early, at, one) in
           absurd no
     ]
+
+    -- what is found of the piece of a hold is that hold
+    pub find-own : All (λ h. find (is_of piece (piece h)) holds ≡ Some h) holds
+    find-own = find-apart piece holds holds_apart
+
+    -- each hold is of a piece that is named
+    pub holds_named : All (λ h. is_named frags (piece h) ≡ true) holds
+    holds_named = All-weaker (λ h. 0 < fragment_count (piece h) frags) (λ h. is_named frags (piece h) ≡ true)
+        (λ h some. some_named (piece h) frags some) holds (All-from_held (λ h. 0 < fragment_count h.piece frags) holds well.named)
 
     -- the pieces of the holds, each once
     pub times-pieces : (q : Piece) (hs : List H) → times q (map piece hs) ≡ count_by (is_of piece q) hs
@@ -197,7 +221,7 @@ module _ {H : Type 0} (piece : H → Piece) (bytes : H → ℕ) where
       }
         where
           not_found : (q : Piece) → fragment_count q frags ≡ 0 → is_some (find (is_of piece q) holds) ≡ false
-          not_found q zero = ap is_some (find-unpassed (is_of piece q) holds (elim (cases_lt 0 (count_by (is_of piece q) holds)) [
+          not_found q unnamed = ap is_some (find-unpassed (is_of piece q) holds (elim (cases_lt 0 (count_by (is_of piece q) holds)) [
             | inl some ↦ let named = hold_named q some in absurd (omega arith)
             | inr none ↦ omega arith
           ]))

@@ -40,7 +40,7 @@ module _ {H : Type 0} (piece : H → Piece) where
       )
 
   -- of holds that are of different pieces at most one is of a piece
-  few_of : (q : Piece) (hs : List H) → AllPairs (AreApart piece) hs → count_by (is_of piece q) hs ≤ 1
+  pub few_of : (q : Piece) (hs : List H) → AllPairs (AreApart piece) hs → count_by (is_of piece q) hs ≤ 1
   few_of q [] apart = omega arith
   few_of q (h ∷ hs) apart = elim (cases_Bool (is_of piece q h)) [
     | inl same ↦

@@ -7,6 +7,7 @@ ghost use Rattle.std.specs.Option.{option_copied_mut};
 ghost use Rattle.piece_table.specs.HeldLends.{lends_held};
 ghost use Rattle.fs_types.specs.Fragments.{IsWellFormedPush, end_of};
 ghost use Rattle.fs_types.specs.Pieces.{Piece};
+ghost use Rattle.fs_types.specs.declared.limits.TheConstants.{LONGEST_FILE};
 ghost use Rattle.span_list.specs.Spans.{IsSpan, next_fragment};
 ghost use Rattle.piece_table.specs.Ranges.{covered, ends_under};
 ghost use Rattle.piece_table.specs.HeldSpans.{AreHeld, Cuts, HandsOver, HasRoom, IsCounted, Puts, PutsAll, held, pushed};
@@ -14,7 +15,7 @@ ghost use Rattle.piece_table.specs.HeldSpans.{AreHeld, Cuts, HandsOver, HasRoom,
 use crate::laying::{lay, lay_all, release_covered};
 use crate::piece_table::PieceTable;
 use crate::pushing::{enter_push, lay_each, pieces_of};
-use crate::ranges::{all_fragments, count_covered, count_under, count_under_all};
+use crate::ranges::{count_covered, count_under, count_under_all, list_fragments};
 use fs_types::{Frag, Hold, LONGEST_FILE, PieceId, Push, Want};
 use span_list::Spans;
 use std::alloc::Global;
@@ -43,6 +44,7 @@ impl<H: Hold + Drop, S: Spans> HeldSpans<H, S> {
     pub fn new(alloc: Global) -> HeldSpans<H, S>
         ensures fragments { (held result).fragments ≡ [] }
         ensures holds { (q : Piece) → (held result).hold_of q ≡ None }
+        ensures pieces { length result.pieces.entries ≡ 0 }
         ensures are_held { AreHeld H.is_ready H.piece H.bytes (held result) }
     {
         HeldSpans {
@@ -66,6 +68,15 @@ impl<H: Hold + Drop, S: Spans> HeldSpans<H, S> {
         ensures counted { IsCounted self.now }
     {
         self.pieces.len()
+    }
+
+    /// How many fragments there are. It walks them.
+    pub fn fragment_count(&self) -> usize
+        ensures count { result ≡ length (held self.now).fragments }
+        ensures small { result ≤ LONGEST_FILE }
+        ensures counted { IsCounted self.now }
+    {
+        count_covered(&self.spans, 0, LONGEST_FILE)
     }
 
     /// The first whole fragment that ends after a place, if any.
@@ -194,6 +205,8 @@ impl<H: Hold + Drop, S: Spans> HeldSpans<H, S> {
         ensures capacity { vec_capacity dead.old ≤ vec_capacity dead.new }
         ensures given_back { IfErr result (λ e. e.1 ≡ push) }
         ensures same { OnErr result (held self.new ≡ held self.old) }
+        ensures same_count { OnErr result
+            (length self.new.pieces.entries ≡ length self.old.pieces.entries) }
         ensures same_dead { OnErr result (dead.new.items ≡ dead.old.items) }
         ensures are_held { AreHeld H.is_ready H.piece H.bytes (held self.new) }
     {
@@ -257,7 +270,31 @@ impl<H: Hold + Drop, S: Spans> HeldSpans<H, S> {
     }
 
     /// All of it as a push: the fragments in order of place, and a hold of each piece that they
-    /// name. Nothing is left. After want of memory nothing has changed.
+    /// name. They go into the two vectors, which have nothing and room for them, so it takes no
+    /// memory. Nothing is left.
+    pub fn take_all(&mut self, mut frags: Vec<Frag>, mut holds: Vec<H>) -> Push<H>
+        requires are_held { AreHeld H.is_ready H.piece H.bytes (held self.old) }
+        requires empty { (frags.items ≡ []) × (holds.items ≡ []) }
+        requires room { length self.old.fragments ≤ vec_capacity frags }
+        requires room_holds { length self.old.pieces.entries ≤ vec_capacity holds }
+        ensures well_formed { IsWellFormedPush H.piece H.bytes result }
+        ensures ready { All (λ h. IsTrue (H.is_ready h)) result.holds.items }
+        ensures fragments { result.frags.items ≡ (held self.old).fragments }
+        ensures holds { (q : Piece)
+            → (pushed H.piece result.frags.items result.holds.items).hold_of q
+            ≡ (held self.old).hold_of q }
+        ensures emptied { (held self.new).fragments ≡ [] }
+        ensures none { (q : Piece) → (held self.new).hold_of q ≡ None }
+        ensures pieces { length self.new.pieces.entries ≡ 0 }
+        ensures are_held { AreHeld H.is_ready H.piece H.bytes (held self.new) }
+    {
+        list_fragments(&self.spans, &mut frags);
+        self.pieces.take_all(&mut holds);
+        self.spans.cut(0);
+        Push { frags, holds }
+    }
+
+    /// The same into vectors that it makes. After want of memory nothing has changed.
     pub fn take_push(&mut self, alloc: Global) -> Result<Push<H>, Want>
         requires are_held { AreHeld H.is_ready H.piece H.bytes (held self.old) }
         ensures well_formed { IfOk result (IsWellFormedPush H.piece H.bytes) }
@@ -271,9 +308,8 @@ impl<H: Hold + Drop, S: Spans> HeldSpans<H, S> {
         ensures same { OnErr result (held self.new ≡ held self.old) }
         ensures are_held { AreHeld H.is_ready H.piece H.bytes (held self.new) }
     {
-        let frags = all_fragments(&self.spans, alloc)?;
-        let mut holds = Vec::new(alloc);
-        self.clear(&mut holds)?;
-        Ok(Push { frags, holds })
+        let frags = Vec::with_capacity(alloc, self.fragment_count())?;
+        let holds = Vec::with_capacity(alloc, self.piece_count())?;
+        Ok(self.take_all(frags, holds))
     }
 }

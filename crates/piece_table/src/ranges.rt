@@ -1,15 +1,14 @@
 //! The fragments that lie whole in a range of a file, and how many end in it: walks of those alone;
 //! and a list of all.
 
-ghost use Rattle.std.specs.Prelude.{◌≡◌, ◌≤◌, ◌+◌, ◌∷◌, [], length, find, IfOk, IfSome, MatchOption};
+ghost use Rattle.std.specs.Prelude.{◌≡◌, ◌≤◌, ◌+◌, ◌∷◌, ◌++◌, [], length, find, vec_len, vec_capacity, IfSome, MatchOption};
 ghost use Rattle.fs_types.specs.Fragments.{end_of};
 ghost use Rattle.fs_types.specs.declared.limits.TheConstants.{LONGEST_FILE};
 ghost use Rattle.span_list.specs.Spans.{AreSpans, IsSpan, begins_from};
 ghost use Rattle.piece_table.specs.Ranges.{covered, ending_count, ends_under, reaching};
 
-use fs_types::{Frag, LONGEST_FILE, Want};
+use fs_types::{Frag, LONGEST_FILE};
 use span_list::Spans;
-use std::alloc::Global;
 
 // The first fragment that doesn't begin before a place.
 fn next_begun<S: Spans>(spans: &S, at: u64) -> Option<Frag>
@@ -123,16 +122,14 @@ pub fn count_covered<S: Spans>(spans: &S, at: u64, end: u64) -> usize
     count
 }
 
-/// All fragments, in order of place.
-pub fn all_fragments<S: Spans>(spans: &S, alloc: Global) -> Result<Vec<Frag>, Want>
-    ensures { IfOk result (λ list. list.items ≡ S.fragments spans.now) }
+/// Adds all fragments, in order of place, to a list with room for them. It takes no memory.
+pub fn list_fragments<S: Spans>(spans: &S, list: &mut Vec<Frag>)
+    requires { vec_len list.old + length (S.fragments spans.now) ≤ vec_capacity list.old }
+    ensures { list.new.items ≡ list.old.items ++ S.fragments spans.now }
 {
-    let mut list = Vec::new(alloc);
-    list.reserve(count_covered(spans, 0, LONGEST_FILE))?;
     let mut place = 0;
     while let Some(f) = next_covered(spans, place, LONGEST_FILE) {
         list.push_reserved(f);
         place = f.at + f.len;
     }
-    Ok(list)
 }

@@ -11,7 +11,7 @@ pub use Rattle.span_list.proofs.NextFragments.{ended-none, mark_at-after_last}
 pub use Rattle.span_list.proofs.Counts.{fragment_count-put, is_mark_of, named-from_mark, mark-from_named}
 pub use Rattle.span_list.proofs.Counts.{no_mark-of_unnamed, unnamed-without_mark}
 -- a put and a cut keep fragments in order, and where they end
-pub use Rattle.span_list.proofs.Parts.{AreSpans-put, AreSpans-cut, put_ends, cut_ends}
+pub use Rattle.span_list.proofs.Parts.{AreSpans-put, AreSpans-cut, AreSpans-from, put_ends, cut_ends}
 -- what a place leaves of fragments that all end by it, or all begin from it on
 pub use Rattle.span_list.proofs.Positions.{rests_before-ended, rests_before-begun, rests_from-ended, rests_from-begun}
 -- a put adds two at most

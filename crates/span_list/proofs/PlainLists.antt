@@ -1,6 +1,10 @@
 -- Plain lists: what holds of each pair of elements, and counts.
 use Rattle.std.specs.Prelude.{AllPairs}
 use Rattle.std.proofs.lemmas.List.Kept.{AllPairs-cons}
+use Rattle.std.specs.List.{splice}
+use Rattle.std.proofs.lemmas.List.{take_at}
+use Rattle.std.proofs.lemmas.Slice.{drop-append-drop}
+use Rattle.fs_types.proofs.Common.{◌≡◌, ℕ, ◌+◌, ◌≤◌, take, drop, length, append_assoc, length-append, length-take-le}
 use Rattle.fs_types.proofs.Common.{suc, List, [], ◌∷◌, ◌++◌, All, flat_map, arith}
 use Rattle.fs_types.proofs.Common.{All-append, All-nil, All-head, All-tail}
 
@@ -29,3 +33,17 @@ All-flat_map P f [] each = All-nil P
 All-flat_map P f (x ∷ xs) each =
     All-append P (f x) (flat_map f xs) (All-head (λ x. All P (f x)) x xs each)
     (All-flat_map P f xs (All-tail (λ x. All P (f x)) x xs each))
+
+-- a list that is spliced, and again from behind what was put there on, is spliced once with both
+pub splice-splice : {X : Type 0} (xs ys zs : List X) (i j k : ℕ) → i + length ys ≡ j → j ≤ length xs → j ≤ k
+    → splice (splice xs i j ys) j k zs ≡ splice xs i k (ys ++ zs)
+splice-splice {X = X} xs ys zs i j k ends within order =
+    let front : List X = take i xs ++ ys in
+    let count : length front ≡ j = omega (arith, length-append (take i xs) ys, length-take-le i xs (omega arith)) in
+    grind (
+      arith,
+      append_assoc,
+      append_assoc (take i xs) ys (drop j xs),
+      take_at front (drop j xs) j count,
+      drop-append-drop j xs front k order count,
+    )

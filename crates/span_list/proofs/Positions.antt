@@ -4,7 +4,7 @@ use Rattle.std.specs.List.Sorted.{IsPartitionPoint, IsPartitionedBy}
 use Rattle.fs_types.proofs.Common.{◌≡◌, ℕ, suc, ◌+◌, ◌-◌, ◌<◌, ◌≤◌, List, [], ◌∷◌, ◌++◌, All, flat_map, arith, length, refl, ap, ◌∙◌}
 use Rattle.fs_types.proofs.Common.{All-head, All-tail, All-cons, All-weaker, ltb-true, ltb-false, leb-true, cond_both, Bool, true, false}
 use Rattle.fs_types.proofs.Common.{not, take, drop, sym, subst}
-use Rattle.fs_types.proofs.Common.{Option, slice_get, cases_eq, inl, inr, nat_tests, append-nil, cases_lt, cond-true, cond-false}
+use Rattle.fs_types.proofs.Common.{slice_get, cases_eq, inl, inr, nat_tests, append-nil, cases_lt, cond-true, cond-false}
 use Rattle.fs_types.proofs.Common.{true≢false, length-append}
 use Rattle.std.specs.Option.{option_to_list}
 use Rattle.std.proofs.lemmas.Bool.{not-true, not-false, leb-false}
@@ -113,7 +113,7 @@ all_from_first at f fs spans here =
     (All-weaker (IsAhead f) (λ g. at ≤ g.at) (λ g behind. omega (arith, behind)) fs (AllPairs-head IsAhead f fs spans.in_order)))
 
 -- what stands before a place: those that end by it, and the rest of the first one that ends behind it
-rests_before : (at : ℕ) (fs : List Fragment) → AreSpans fs → let n : ℕ = position_or_len (ends_after at) fs in
+pub rests_before : (at : ℕ) (fs : List Fragment) → AreSpans fs → let n : ℕ = position_or_len (ends_after at) fs in
     flat_map (rest_before at) fs ≡ take n fs ++ flat_map (rest_before at) (option_to_list (slice_get (drop n fs) 0))
 rests_before at [] spans = refl
 rests_before at (f ∷ fs) spans =
@@ -125,14 +125,6 @@ rests_before at (f ∷ fs) spans =
     (rests_before-begun at fs (All-weaker (IsAhead f) (λ g. at ≤ g.at) (λ g behind. omega (arith, behind, ltb-true at (end_of f) e)) fs ahead)))
     (λ e. ap (λ us. us ++ flat_map (rest_before at) fs) (whole_before at f span.has_bytes (ltb-false at (end_of f) e))
     ∙ ap (λ us. f ∷ us) (rests_before at fs (AreSpans-tail f fs spans)))
-
--- the same at the number of those that end by the place, and what was read behind them
-pub rests_before-at : (at : ℕ) (fs : List Fragment) (n : ℕ) (o : Option Fragment) → AreSpans fs → n ≡ position_or_len (ends_after at) fs
-    → o ≡ slice_get (drop n fs) 0 → flat_map (rest_before at) fs ≡ take n fs ++ flat_map (rest_before at) (option_to_list o)
-rests_before-at at fs n o spans count read =
-    rests_before at fs spans
-    ∙ ap (λ (i : ℕ). take i fs ++ flat_map (rest_before at) (option_to_list (slice_get (drop i fs) 0))) (sym count)
-    ∙ ap (λ (p : Option Fragment). take n fs ++ flat_map (rest_before at) (option_to_list p)) (sym read)
 
 -- what stands from a place on, of fragments whose first one begins before it
 rests_behind : (at : ℕ) (f : Fragment) (fs : List Fragment) → AreSpans (f ∷ fs) → f.at < at
@@ -153,7 +145,7 @@ rests_behind at f (g ∷ gs) spans begun =
     ∙ rests_behind at g gs rest before)
 
 -- what stands from a place on: the rest of the last one that begins before it, and those that begin from it on
-rests_from : (at : ℕ) (fs : List Fragment) → AreSpans fs → let n : ℕ = position_or_len (begins_from at) fs in
+pub rests_from : (at : ℕ) (fs : List Fragment) → AreSpans fs → let n : ℕ = position_or_len (begins_from at) fs in
     flat_map (rest_from at) fs
     ≡ flat_map (rest_from at) (option_to_list (slice_get (take n fs) (length (take n fs) - 1))) ++ drop n fs
 rests_from at [] spans = refl
@@ -166,15 +158,6 @@ rests_from at (f ∷ fs) spans =
     let less : length (take n fs) ≡ suc (length (take n fs)) - 1 = omega arith in
     subst (λ i. flat_map (rest_from at) (f ∷ fs) ≡ flat_map (rest_from at) (option_to_list (slice_get (f ∷ take n fs) i)) ++ drop n fs)
     less (rests_behind at f fs spans (leb-false at f.at e)))
-
--- the same at the number of those that begin before the place, and the last of them that was read
-pub rests_from-at : (at : ℕ) (fs : List Fragment) (n : ℕ) (o : Option Fragment) → AreSpans fs → n ≡ position_or_len (begins_from at) fs
-    → o ≡ slice_get (take n fs) (length (take n fs) - 1)
-    → flat_map (rest_from at) fs ≡ flat_map (rest_from at) (option_to_list o) ++ drop n fs
-rests_from-at at fs n o spans count read =
-    rests_from at fs spans
-    ∙ ap (λ (i : ℕ). flat_map (rest_from at) (option_to_list (slice_get (take i fs) (length (take i fs) - 1))) ++ drop i fs) (sym count)
-    ∙ ap (λ (p : Option Fragment). flat_map (rest_from at) (option_to_list p) ++ drop n fs) (sym read)
 
 -- the next fragment is the first of those that don't end by the place
 pub next_fragment_is : (at : ℕ) (fs : List Fragment) → next_fragment at fs ≡ slice_get (drop (position_or_len (ends_after at) fs) fs) 0

@@ -10,6 +10,9 @@
 //! `reserve` makes room for so many more fragments, and changes none: while there is room for two,
 //! a put takes no memory.
 //!
+//! `rest_before` and `rest_from` cut one fragment at a place: what of it stands before, and what
+//! from there on, with the place in its piece where that begins.
+//!
 //! ```
 //! let piece = PieceId {
 //!     line: LineNo(1),
@@ -42,11 +45,13 @@
 
 mod laws;
 mod places;
+mod replacing;
 mod rests;
 mod span_list;
 mod spans;
 
 pub use laws::{look_ups_pass_no_mark, putting_and_cutting_are_by_place};
+pub use rests::{rest_before, rest_from};
 pub use span_list::SpanList;
 pub use spans::Spans;
 

@@ -2,11 +2,12 @@
 
 ghost use Rattle.std.specs.Prelude.{◌≡◌, ◌≤◌, ◌<◌, ◌+◌, ◌-◌, ◌∷◌, ◌++◌, not, take, drop, length};
 ghost use Rattle.std.specs.Prelude.{vec_len, vec_capacity, OnSome};
-ghost use Rattle.std.specs.List.{flat_map, insert, position_or_len};
+ghost use Rattle.std.specs.List.{flat_map, position_or_len};
 ghost use Rattle.std.specs.Option.{option_to_list};
 ghost use Rattle.span_list.specs.Spans.{AreSpans, IsSpan, begins_from, ends_after, cut_fragments};
 ghost use Rattle.span_list.specs.Spans.{next_fragment, put_fragment, rest_before, rest_from};
 
+use crate::replacing::replace;
 use crate::rests::{rest_before, rest_from};
 use fs_types::Frag;
 
@@ -108,20 +109,6 @@ fn gap_between(frags: &[Frag], at: u64, end: u64) -> Gap
     }
 }
 
-// Puts a fragment, if there is one, in front of the one at this place, where there is room.
-fn insert(frags: &mut Vec<Frag>, place: usize, part: Option<Frag>)
-    requires place { place ≤ vec_len frags.old }
-    requires room { vec_len frags.old + length (option_to_list part) ≤ vec_capacity frags.old }
-    ensures items { frags.new.items
-        ≡ take place frags.old.items ++ (option_to_list part ++ drop place frags.old.items) }
-    ensures len { vec_len frags.new ≡ vec_len frags.old + length (option_to_list part) }
-    ensures capacity { vec_capacity frags.old ≤ vec_capacity frags.new }
-{
-    if let Some(f) = part {
-        frags.insert(place, f).unwrap();
-    }
-}
-
 /// Puts a fragment over the others, where there is room for two more.
 pub fn put_in_list(frags: &mut Vec<Frag>, f: Frag)
     requires spans { AreSpans frags.old.items }
@@ -132,10 +119,14 @@ pub fn put_in_list(frags: &mut Vec<Frag>, f: Frag)
     ensures capacity { vec_capacity frags.old ≤ vec_capacity frags.new }
 {
     let gap = gap_between(frags, f.at, f.at + f.len);
-    frags.drain(gap.first..gap.last);
-    insert(frags, gap.first, gap.behind);
-    insert(frags, gap.first, Some(f));
-    insert(frags, gap.first, gap.before);
+    match (gap.before, gap.behind) {
+        (None, None) => replace(frags, gap.first, gap.last, &[f]),
+        (Some(before), None) => replace(frags, gap.first, gap.last, &[before, f]),
+        (None, Some(behind)) => replace(frags, gap.first, gap.last, &[f, behind]),
+        (Some(before), Some(behind)) => {
+            replace(frags, gap.first, gap.last, &[before, f, behind])
+        }
+    }
 }
 
 /// Drops all bytes from a place on.

@@ -1,14 +1,15 @@
-//! What is left of a fragment on each side of a place.
+//! What is left of a fragment on each side of a place. Of one that may be kept it may be kept too.
 
-ghost use Rattle.std.specs.Prelude.{◌≡◌};
+ghost use Rattle.std.specs.Prelude.{◌≡◌, IfSome};
 ghost use Rattle.std.specs.Option.{option_to_list};
 ghost use Rattle.span_list.specs.Spans.{IsSpan, rest_before, rest_from};
 
 use fs_types::Frag;
 
-/// What of it stands before a place, if anything.
+/// What of a fragment stands before a place of the file, if anything.
 pub fn rest_before(f: Frag, at: u64) -> Option<Frag>
-    ensures { option_to_list result ≡ rest_before at f }
+    ensures rest { option_to_list result ≡ rest_before at f }
+    ensures span { IsSpan f → IfSome result IsSpan }
 {
     if at <= f.at {
         return None;
@@ -19,10 +20,12 @@ pub fn rest_before(f: Frag, at: u64) -> Option<Frag>
     })
 }
 
-/// What of it stands from a place on, if anything.
+/// What of a fragment that may be kept stands from a place of the file on, if anything. It begins
+/// at the byte of its piece that stood there.
 pub fn rest_from(f: Frag, at: u64) -> Option<Frag>
     requires { IsSpan f }
-    ensures { option_to_list result ≡ rest_from at f }
+    ensures rest { option_to_list result ≡ rest_from at f }
+    ensures span { IfSome result IsSpan }
 {
     let end = f.at + f.len;
     if end <= at {
