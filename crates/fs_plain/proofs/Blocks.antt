@@ -1,15 +1,20 @@
 -- Bytes that are kept by blocks, and what stands at each place once some are put over them.
-use Rattle.std.proofs.Common.{◌≡◌, ℕ, zero, suc, ◌+◌, ◌-◌, ◌<◌, ◌≤◌, max, true, refl, sym, ap, ◌∙◌, inl, inr, arith}
-use Rattle.std.proofs.Common.{List, [], ◌∷◌, ◌++◌, length, take, drop, replicate, get_or}
-use Rattle.std.proofs.lemmas.Bool.{cases_lt}
+use Rattle.std.proofs.Common.{◌≡◌, ℕ, zero, suc, ◌+◌, ◌-◌, ◌/◌, ◌%◌, ◌<◌, ◌≤◌, max, nat_le, Bool, true, false, cond, None, refl, sym, ap, ◌∙◌, inl, inr, arith}
+use Rattle.std.proofs.Common.{List, [], ◌∷◌, ◌++◌, length, take, drop, replicate, filter, get_or, All, nat_cmp}
+use Rattle.std.specs.Map.{lookup}
+use Rattle.std.specs.BTreeMap.{is_at}
+use Rattle.std.specs.Cmp.{unsigned_tied}
+use Rattle.std.proofs.lemmas.Bool.{cases_lt, eqb-true}
 use Rattle.std.proofs.lemmas.Bool.Decides.{nat_tests}
 use Rattle.std.proofs.lemmas.List.{get_or-replicate, get_or_past, length-replicate, length-take-le}
 use Rattle.std.proofs.lemmas.List.{get_or_append_left, get_or-append_right, get_or-take, get_or-drop}
 use Rattle.std.proofs.lemmas.List.FromFn.{length-map-range_with_len, get_or-map-range_with_len, fill_by_all}
+use Rattle.std.proofs.lemmas.Map.Entries.{lookup-filter-keys}
 use borrow.Rule.Slice.PartMut.{put_mid}
-use Rattle.fs_types.specs.Overwrite.{put}
-use Rattle.fs_types.proofs.CallerLemmas.{length-put, get_or-put}
-use Rattle.fs_plain.specs.Blocks.{is_blank, byte_at, byte_put, first_bytes, AreZerosFrom, PutsBytes}
+use Rattle.fs_types.specs.Overwrite.{put, cut}
+use Rattle.fs_types.proofs.CallerLemmas.{length-put, get_or-put, length-cut, get_or-cut}
+use Rattle.fs_plain.specs.declared.limits.TheConstants.{BLOCK}
+use Rattle.fs_plain.specs.Blocks.{is_blank, byte_in, byte_at, byte_put, first_bytes, AreZerosFrom, PutsBytes, KeepsBytesBefore}
 
 -- zeros are zeros, also past their end
 pub zeros : (n k : ℕ) → get_or {A = ℕ} (replicate n 0) k 0 ≡ 0
@@ -42,6 +47,35 @@ put_mid-byte xs ys at n k is within =
       ]
     ]
 
+-- where the blocks after one are gone, their bytes are zeros
+pub byte_at-filter : (m : List (ℕ × List ℕ)) (last k : ℕ)
+    → byte_at (filter (λ e. nat_le e.0 last) m) k ≡ cond (nat_le (k / BLOCK) last) (byte_at m k) 0
+byte_at-filter m last k =
+    ap (λ b. byte_in b (k % BLOCK))
+    (lookup-filter-keys (is_at (nat_cmp (k / BLOCK))) (λ j. nat_le j last) (nat_le (k / BLOCK) last)
+    (λ j here. ap (λ i. nat_le i last) (sym (eqb-true (k / BLOCK) j (sym (unsigned_tied (k / BLOCK) j) ∙ here)))) m)
+    ∙ by (nat_le (k / BLOCK) last)
+  where
+    by : (b : Bool) → byte_in (cond b (lookup (is_at (nat_cmp (k / BLOCK))) m) None) (k % BLOCK) ≡ cond b (byte_at m k) 0
+    by true = refl
+    by false = refl
+
+-- zeros put from place n to the end of its block, and no block after it: what came before place n is left
+pub keeps_before : (n : ℕ) (blanks : List ℕ) (old put left : ℕ → ℕ) → length blanks ≡ BLOCK - n % BLOCK
+    → All (λ b. b ≡ 0) blanks → PutsBytes n blanks old put
+    → ((k : ℕ) → left k ≡ cond (nat_le (k / BLOCK) (n / BLOCK)) (put k) 0) → KeepsBytesBefore n old left
+keeps_before n blanks old put left long blank puts leaves k =
+    let of_put = puts k in
+    let of_left = leaves k in
+    let of_blanks = blank (k - n) 0 in
+    elim (cases_lt k n) [
+      | inl lt ↦ let within : k / BLOCK ≤ n / BLOCK = omega arith in grind (arith, nat_tests)
+      | inr le ↦ elim (cases_lt (n / BLOCK) (k / BLOCK)) [
+        | inl after ↦ grind (arith, nat_tests)
+        | inr here ↦ let within : k < n + length blanks = omega arith in grind (arith, nat_tests)
+      ]
+    ]
+
 module _ (m : List (ℕ × List ℕ)) (n : ℕ) where
   pub length-first_bytes : length (first_bytes m n) ≡ n
   length-first_bytes = length-map-range_with_len (byte_at m) 0 n
@@ -68,9 +102,26 @@ module _ (m : List (ℕ × List ℕ)) (n : ℕ) where
       ∙ ap (λ (b : ℕ). byte_put at bytes k b) (first_bytes-everywhere k rest)
       ∙ sym (put_there k)))
 
+  -- blocks that keep what they had before place k, and zeros from there on, are those of the list that is cut there
+  pub first_bytes-cut : (m' : List (ℕ × List ℕ)) (k : ℕ) → AreZerosFrom m n → KeepsBytesBefore k (byte_at m) (byte_at m')
+      → first_bytes m' k ≡ cut 0 (first_bytes m n) k
+  first_bytes-cut m' k rest keeps =
+      let xs = first_bytes m n in
+      sym (fill_by_all (byte_at m') (cut 0 xs k) k 0 (length-cut 0 xs k) (λ i below.
+      get_or-cut 0 xs k i below ∙ first_bytes-everywhere i rest ∙ sym (keeps i ∙ grind (arith, nat_tests))))
+
+  -- where there are no more bytes than that, the same blocks do
+  pub first_bytes-extended : (k : ℕ) → n ≤ k → AreZerosFrom m n → first_bytes m k ≡ cut 0 (first_bytes m n) k
+  first_bytes-extended k le rest = first_bytes-cut m k rest (λ i. elim (cases_lt i k) [
+    | inl lt ↦ grind (arith, nat_tests)
+    | inr past ↦ rest i (omega arith) ∙ grind (arith, nat_tests)
+  ])
+
 -- what a function's attribute cites: of a part that is written over, of reading a list, and of putting bytes over it
 pub ruleset part_laws = (put_mid-byte)
 
 pub ruleset list_laws = (length-first_bytes, first_bytes-at)
 
 pub ruleset put_laws = (first_bytes-put)
+
+pub ruleset cut_laws = (first_bytes-cut, first_bytes-extended)

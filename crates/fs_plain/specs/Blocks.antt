@@ -37,6 +37,10 @@ AreZerosFrom blocks n = (k : ℕ) → n ≤ k → byte_at blocks k ≡ 0
 abbrev pub byte_put : ℕ → List ℕ → ℕ → ℕ → ℕ
 byte_put at bytes k was = if nat_le at k && nat_lt k (at + length bytes) then slice_index bytes (k - at) else was
 
+-- each place before n keeps what it had, and no byte but 0 stands from there on
+abbrev pub KeepsBytesBefore : ℕ → (ℕ → ℕ) → (ℕ → ℕ) → Type 0
+KeepsBytesBefore n old new = (k : ℕ) → new k ≡ (if nat_lt k n then old k else 0)
+
 -- these bytes are put from place at on over what each place had, and every other place keeps what it had
 abbrev pub PutsBytes : ℕ → List ℕ → (ℕ → ℕ) → (ℕ → ℕ) → Type 0
 PutsBytes at bytes old new = (k : ℕ) → new k ≡ byte_put at bytes k (old k)

@@ -46,7 +46,7 @@ pub fn is_accepted(a: &Answer) -> bool
     }
 }
 
-/// Whether an operation that takes in what is pending leaves nothing pending.
+/// Whether an operation that takes in or drops what is pending leaves nothing pending.
 pub fn empties(a: &Answer) -> bool
     ensures { result ≡ empties a.now }
 {

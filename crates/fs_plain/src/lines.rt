@@ -35,7 +35,13 @@ fn offset_of(op: &Op) -> Option<u64>
 {
     match op {
         Op::Write { off, .. } => Some(*off),
-        Op::Create | Op::Open | Op::Sync | Op::Read { .. } | Op::Size => None,
+        Op::Create
+        | Op::Open
+        | Op::Sync
+        | Op::Read { .. }
+        | Op::Size
+        | Op::Trunc { .. }
+        | Op::Unlink => None,
     }
 }
 

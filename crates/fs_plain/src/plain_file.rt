@@ -4,7 +4,7 @@ ghost use Rattle.std.specs.Prelude.{◌≡◌, ◌<◌, ◌∷◌, [], false, le
 ghost use Rattle.std.specs.Prelude.{None, Some, is_some, OnOk};
 ghost use Rattle.fs_types.specs.PlainFile.{is_open_to_change};
 ghost use Rattle.fs_script.specs.Payload.{bytes_of};
-ghost use Rattle.fs_script.specs.Effect.{with_lines};
+ghost use Rattle.fs_script.specs.Effect.{cut_to, with_lines};
 ghost use Rattle.fs_plain.specs.FileAttributes.{attr_of, bytes_in};
 
 use crate::payload;
@@ -82,6 +82,16 @@ impl PlainFile {
     {
         if let Some(content) = &mut self.content {
             payload::put_line(alloc, s, n, &mut content.bytes)?;
+        }
+        Ok(())
+    }
+
+    /// Cuts the file to `n` bytes, or fills it up with zeros to as many, if it is there.
+    pub(crate) fn cut(&mut self, alloc: Global, n: u64) -> Result<(), Want>
+        ensures { OnOk result (self.new ≡ cut_to 0 n self.old) }
+    {
+        if let Some(content) = &mut self.content {
+            content.bytes.cut(alloc, n)?;
         }
         Ok(())
     }

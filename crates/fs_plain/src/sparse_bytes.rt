@@ -1,9 +1,10 @@
 //! The bytes of a file, most of which may be 0.
 
-ghost use Rattle.std.specs.Prelude.{◌≡◌, ◌+◌, ◌%◌, ◌≤◌, ◌<◌, [], length, slice_index, OnOk, OnErr};
-ghost use Rattle.fs_types.specs.Overwrite.{put};
+ghost use Rattle.std.specs.Prelude.{◌≡◌, ℕ, ◌+◌, ◌/◌, ◌%◌, ◌≤◌, ◌<◌, nat_le, if◌then◌else◌, []};
+ghost use Rattle.std.specs.Prelude.{length, slice_index, OnOk, OnErr};
+ghost use Rattle.fs_types.specs.Overwrite.{cut, put};
 ghost use Rattle.fs_types.specs.declared.limits.TheConstants.{LONGEST_FILE};
-ghost use Rattle.fs_plain.specs.Blocks.{PutsBytes, byte_at};
+ghost use Rattle.fs_plain.specs.Blocks.{KeepsBytesBefore, PutsBytes, byte_at};
 
 use crate::block::Block;
 use crate::limits::BLOCK;
@@ -57,6 +58,26 @@ fn put_in_block(
     Ok(())
 }
 
+// Drops every block after this one.
+fn drop_blocks_after(blocks: &mut BTreeMap<u64, Block>, last: u64)
+    ensures { (k : ℕ) → byte_at blocks.new.entries k
+        ≡ (if nat_le (k / BLOCK) last then byte_at blocks.old.entries k else 0) }
+{
+    blocks.retain(|number, _| *number <= last);
+}
+
+// Leaves the bytes before place `n`, and zeros from there on.
+fn clear_from(alloc: Global, blocks: &mut BTreeMap<u64, Block>, n: u64) -> Result<(), Want>
+    ensures ok { OnOk result (KeepsBytesBefore n
+        (byte_at blocks.old.entries) (byte_at blocks.new.entries)) }
+    ensures err { OnErr result (blocks.new.entries ≡ blocks.old.entries) }
+{
+    let zeros = [0; BLOCK];
+    put_in_block(alloc, blocks, n, &zeros[(n % BLOCK as u64) as usize..])?;
+    drop_blocks_after(blocks, n / BLOCK as u64);
+    Ok(())
+}
+
 impl SparseBytes {
     /// No bytes. It takes no memory.
     pub fn new(alloc: Global) -> SparseBytes
@@ -100,6 +121,19 @@ impl SparseBytes {
     {
         put_in_block(alloc, &mut self.blocks, at, bytes)?;
         self.len = self.len.max(at + bytes.len() as u64);
+        Ok(())
+    }
+
+    /// Leaves the first `n` bytes, with zeros after them where there are fewer.
+    #[tactic(auto, using(crate::proofs::Blocks::cut_laws))]
+    pub fn cut(&mut self, alloc: Global, n: u64) -> Result<(), Want>
+        ensures ok { OnOk result (self.new ≡ cut 0 self.old n) }
+        ensures err { OnErr result (self.new ≡ self.old) }
+    {
+        if n < self.len {
+            clear_from(alloc, &mut self.blocks, n)?;
+        }
+        self.len = n;
         Ok(())
     }
 

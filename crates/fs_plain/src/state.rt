@@ -4,7 +4,7 @@ ghost use Rattle.std.specs.Prelude.{◌≡◌, length, IfOk, OnOk};
 ghost use Rattle.fs_types.specs.AnswerList.{answer_at};
 ghost use Rattle.fs_script.specs.Payload.{bytes_of};
 ghost use Rattle.fs_script.specs.Pending.{pending_at};
-ghost use Rattle.fs_script.specs.Effect.{effect, effect_of, state, with_lines};
+ghost use Rattle.fs_script.specs.Effect.{effect, effect_of, is_enabled, makes, state, with_lines};
 
 use crate::lines::op_of;
 use crate::pending::pending_of;
@@ -23,6 +23,58 @@ fn put_lines(alloc: Global, s: &Script, lines: &[LineNo], file: &mut PlainFile) 
     Ok(())
 }
 
+// Puts what is pending at line `n` over the file.
+fn put_pending(
+    alloc: Global,
+    s: &Script,
+    a: &Answers,
+    n: LineNo,
+    file: &mut PlainFile,
+) -> Result<(), Want>
+    ensures { let pending = pending_at s.now (answer_at a.now.list) n in
+        OnOk result (file.new ≡ with_lines s.now (bytes_of s.now) pending file.old) }
+{
+    let pending = pending_of(alloc, s, a, n)?;
+    put_lines(alloc, s, &pending, file)
+}
+
+// Whether an operation may be committed over the file.
+fn is_enabled(op: &Op, file: &PlainFile) -> bool
+    ensures { result ≡ is_enabled op.now file.now }
+{
+    match op {
+        Op::Create => !file.exists(),
+        Op::Sync | Op::Trunc { .. } => file.is_open_to_change(),
+        Op::Unlink => file.exists(),
+        Op::Open | Op::Write { .. } | Op::Read { .. } | Op::Size => false,
+    }
+}
+
+// Makes of the file what the operation of line `n` makes of it.
+fn make(
+    alloc: Global,
+    s: &Script,
+    a: &Answers,
+    n: LineNo,
+    op: &Op,
+    file: &mut PlainFile,
+) -> Result<(), Want>
+    ensures { let pending = pending_at s.now (answer_at a.now.list) n in
+        OnOk result (file.new ≡ makes s.now (bytes_of s.now) op.now pending file.old) }
+{
+    match op {
+        Op::Create => *file = PlainFile::empty(alloc),
+        Op::Sync => put_pending(alloc, s, a, n, file)?,
+        Op::Trunc { n: size } => {
+            put_pending(alloc, s, a, n, file)?;
+            file.cut(alloc, *size)?;
+        }
+        Op::Unlink => *file = PlainFile::none(),
+        Op::Open | Op::Write { .. } | Op::Read { .. } | Op::Size => {}
+    }
+    Ok(())
+}
+
 // Does to the file what the operation of line `n` does, if it may be committed over it.
 fn apply(
     alloc: Global,
@@ -35,22 +87,10 @@ fn apply(
     ensures { let pending = pending_at s.now (answer_at a.now.list) n in
         OnOk result (file.new ≡ effect_of s.now (bytes_of s.now) op.now pending file.old) }
 {
-    match op {
-        Op::Create => {
-            if !file.exists() {
-                *file = PlainFile::empty(alloc);
-            }
-            Ok(())
-        }
-        Op::Sync => {
-            if file.is_open_to_change() {
-                let pending = pending_of(alloc, s, a, n)?;
-                put_lines(alloc, s, &pending, file)?;
-            }
-            Ok(())
-        }
-        Op::Open | Op::Write { .. } | Op::Read { .. } | Op::Size => Ok(()),
+    if is_enabled(op, file) {
+        make(alloc, s, a, n, op, file)?;
     }
+    Ok(())
 }
 
 // Does to the file what line `n` does.

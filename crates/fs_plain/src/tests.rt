@@ -56,6 +56,31 @@ const ZEROS: &[u8] = b"unifyfs 1 servers=1 clients=1 chunk=64 shmem=4 spill=0
 0 sync /unifyfs/a
 ";
 
+// A write over the end of a block that a cut takes in, then shorter and longer cuts.
+const CUTS: &[u8] = b"unifyfs 1 servers=1 clients=1 chunk=64 shmem=4 spill=0
+0 create /unifyfs/a
+0 write /unifyfs/a 4094 t:abcde
+0 trunc /unifyfs/a 4098
+0 trunc /unifyfs/a 4096
+0 trunc /unifyfs/a 10000
+0 trunc /unifyfs/a 1099511627776
+0 trunc /unifyfs/a 4095
+0 trunc /unifyfs/a 4094
+0 trunc /unifyfs/a 0
+";
+
+// A file that is taken away with a write pending, and made again.
+const TWO_LIVES: &[u8] = b"unifyfs 1 servers=1 clients=1 chunk=64 shmem=4 spill=0
+0 create /unifyfs/a
+0 write /unifyfs/a 0 t:old
+0 sync /unifyfs/a
+0 write /unifyfs/a 0 t:lost
+0 unlink /unifyfs/a
+0 create /unifyfs/a
+0 write /unifyfs/a 1 t:b
+0 sync /unifyfs/a
+";
+
 fn script_of(alloc: Global, text: &[u8]) -> Result<Script, Fail> {
     let script = read_script(alloc, text)
         .ok()
@@ -262,6 +287,66 @@ fn blocks_of_zeros_are_not_kept(rt: HostRuntime) -> Result<(), Fail> {
         let earlier = journal.get(..lines).ok_or("the journal has four lines")?;
         let file = state_at(alloc, &script, &answers, &a, earlier)?;
         assert_eq!(rt; (file.attr().size, file.blocks()), (size, blocks));
+    }
+    Ok(())
+}
+
+#[test]
+fn cuts_leave_the_first_bytes_and_fill_up_with_zeros(rt: HostRuntime) -> Result<(), Fail> {
+    let alloc = rt.alloc();
+    let script = script_of(alloc, CUTS)?;
+    let answers = answers_of(alloc, &[2, 4, 5, 6, 7, 8, 9, 10], &[3], &[])?;
+    let a = Path::read(alloc, b"/unifyfs/a")?;
+    let journal = lines_of(alloc, &[2, 4, 5, 6, 7, 8, 9, 10])?;
+    for (lines, size, blocks, last) in [
+        (1, 0, 0, None),
+        (2, 4_098, 2, Some(b'd')),
+        (3, 4_096, 1, Some(b'b')),
+        (4, 10_000, 1, Some(0)),
+        (5, 1_099_511_627_776, 1, Some(0)),
+        (6, 4_095, 1, Some(b'a')),
+        (7, 4_094, 0, Some(0)),
+        (8, 0, 0, None),
+    ] {
+        let earlier = journal.get(..lines).ok_or("the journal has eight lines")?;
+        let file = state_at(alloc, &script, &answers, &a, earlier)?;
+        assert_eq!(rt; (file.attr().size, file.blocks()), (size, blocks));
+        assert_eq!(rt; byte(&file, size.saturating_sub(1)), last);
+        // What the second cut took away doesn't come back.
+        if lines >= 3 && size > 4_096 {
+            assert_eq!(rt; byte(&file, 4_096), Some(0));
+        }
+    }
+    Ok(())
+}
+
+#[test]
+fn a_path_has_a_file_in_each_of_its_lives(rt: HostRuntime) -> Result<(), Fail> {
+    let alloc = rt.alloc();
+    let script = script_of(alloc, TWO_LIVES)?;
+    let answers = answers_of(alloc, &[2, 4, 6, 7, 9], &[3, 5, 8], &[])?;
+    let a = Path::read(alloc, b"/unifyfs/a")?;
+    let journal = lines_of(alloc, &[2, 4, 6, 7, 9])?;
+    for (lines, exists, size, first) in [
+        (2, true, 3, Some(b'o')),
+        (3, false, 0, None),
+        (4, true, 0, None),
+        (5, true, 2, Some(0)),
+    ] {
+        let earlier = journal.get(..lines).ok_or("the journal has five lines")?;
+        let file = state_at(alloc, &script, &answers, &a, earlier)?;
+        assert_eq!(rt; (file.attr().exists, file.attr().size), (exists, size));
+        assert_eq!(rt; byte(&file, 0), first);
+    }
+    let mut journals = Journals::new(alloc);
+    journals.add(a, journal)?;
+    for (n, pending, front) in [(6, 5, 2), (7, 0, 3), (8, 0, 4), (9, 8, 4)] {
+        let lines = pending_of(alloc, &script, &answers, LineNo(n))?;
+        assert_eq!(rt; lines.first().map_or(0, |line| line.0), pending);
+        assert_eq!(rt;
+            front_of(&script, &answers, &journals, LineNo(n)),
+            Version(front)
+        );
     }
     Ok(())
 }

@@ -13,8 +13,8 @@ pub use Rattle.fs_script.proofs.Agreement.{pending-agree, over_answers-agree, ac
 pub use Rattle.fs_script.proofs.JournalGrows.{own_op-rank, AgreeBefore-next, pending_at-answered, pending_at-next}
 -- the file at a version, as answers come and as the journal grows
 pub use Rattle.fs_script.proofs.States.{put_lines-append, state_in-agree, state_in-push, state_in-push_last}
--- lines put over a file: how long it is, and the marks that stand there and the pieces that they are of
-pub use Rattle.fs_script.proofs.PutLines.{length-put_lines, get_or-put_lines, bears-at, bears-place, bears-put_lines, bears-put}
+-- lines put over a file, and a file that is cut: how long it is, and the marks that stand there and the pieces that they are of
+pub use Rattle.fs_script.proofs.PutLines.{length-put_lines, get_or-put_lines, bears-at, bears-place, bears-put_lines, bears-put, bears-cut}
 -- each mark stands where its line wrote its byte
 pub use Rattle.fs_script.proofs.MarksAtHome.{IsAtHome-marks_put, IsAtHome-marks_at}
 -- the runs of marks: what they are, and that no other fragments are so
@@ -24,11 +24,11 @@ pub use Rattle.fs_script.proofs.RunsInOrder.{have_bytes-runs, in_order-runs, end
 pub use Rattle.fs_script.proofs.LivePaths.{live-by_any_path}
 pub use Rattle.fs_script.proofs.LivePieces.{IsPart-pending, IsPart-either, length-live_or_pending}
 pub use Rattle.fs_script.proofs.MarksGrow.{is_live-agree}
-pub use Rattle.fs_script.proofs.PiecesGrow.{IsNewPiece, is_live-next, is_pending-next}
+pub use Rattle.fs_script.proofs.PiecesGrow.{IsNewPiece, is_live-next, is_pending-next, is_pending-now, view_of-bears}
 pub use Rattle.fs_script.proofs.LivePaths.{named-passes}
 pub use Rattle.fs_script.proofs.LivePieces.{IsPart-pending_marks}
--- the file at a version by its marks: its bytes, and whether it is there
-pub use Rattle.fs_script.proofs.MarkedBytes.{state-by_marks, is_some-marks_at}
+-- the file at a version by its marks: its bytes, what a client sees of them, and whether it is there
+pub use Rattle.fs_script.proofs.MarkedBytes.{state-by_marks, view_of-by_marks, is_some-marks_at, is_some-view_of}
 -- pieces: two names of one, lists that have each once, and how many the accepted lines of a client have
 pub use Rattle.fs_script.proofs.PiecesOnce.{same_piece, piece_eq_equiv, IsDistinct-filter, IsDistinct-pieces_by}
 pub use Rattle.fs_script.proofs.PiecesOfClients.{IsPartOf, IsPartOf-from_pieces, any_from_Contains, part-at, part-there}

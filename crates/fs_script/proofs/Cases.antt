@@ -98,7 +98,7 @@ overlapping = record {
       ∷ lines.Op (on_a (ops.Write 10 (Text (codes "!"))))
       ∷ lines.Op (on_a ops.Sync)
       ∷ lines.Note
-      ∷ lines.Op (on_a (ops.Read 4 100))
+      ∷ lines.Op (on_a (ops.Read 4 100 false))
       ∷ [];
 }
 
@@ -141,7 +141,7 @@ lines_of_operations = refl
 program_of_another : program overlapping 1 ≡ []
 program_of_another = refl
 
-gap_shown : Fits [] overlapping overlapping_answers overlapping_journal 10 (on_a (ops.Read 4 100))
+gap_shown : Fits [] overlapping overlapping_answers overlapping_journal 10 (on_a (ops.Read 4 100 false))
     (answers.Shown 3 7 (bodies.Hex (codes "yz" ++ 0 ∷ 0 ∷ 0 ∷ 0 ∷ codes "!")))
 gap_shown = record {
   opened = refl;

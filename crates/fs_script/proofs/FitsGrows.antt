@@ -11,6 +11,7 @@ use Rattle.fs_script.proofs.States.{state_in-agree, state_in-push}
 use Rattle.fs_script.proofs.Fronts.{front-agree, front-push}
 use Rattle.fs_script.proofs.PlainLists.{slice_get-push}
 use Rattle.fs_types.specs.declared.answer.Answer.TheVariants as answers
+use Rattle.fs_script.specs.Effect.{view_of}
 use Rattle.fs_script.specs.Fits.{IsSized}
 
 -- ---- answers come
@@ -37,6 +38,7 @@ line_view-agree s A B J n o h same i = record {
   file = λ v. state_in-agree s (bytes_of s) A B J v same i;
   front = front-agree s A B J o.rank o.path n (h o.path) i;
   pending = pending-agree s o.rank o.path A B n (h o.path) i;
+  sees = λ own. view_of s (bytes_of s) own (pending-agree s o.rank o.path A B n (h o.path) i);
   chunk = s.shape.chunk;
   slots = s.shape.shmem + s.shape.spill;
   accepted = accepted_before-agree s o.rank A B n h i;
@@ -117,7 +119,7 @@ IsInTable-push compared w K g op (answers.Wrote slots) entries file writes h = A
 IsInTable-push compared w K g op (answers.Staged v n slots) entries file writes h = h
 IsInTable-push compared w K g op (answers.Sized v n frozen) entries file writes h = (h.0, subst (λ f. IsSized f n frozen) (sym file) h.1)
 IsInTable-push compared w K g op (answers.Shown v n body) entries file writes h =
-    subst (λ f. ShowsAsked compared (asked op) f n body) (sym file) h
+    subst (λ f. ShowsAsked compared w (asked op) f n body) (sym file) h
 IsInTable-push compared w K g op answers.BadF entries file writes h = h
 IsInTable-push compared w K g op (answers.Exists v) entries file writes h = (h.0, subst (λ f. IsSome f) (sym file) h.1)
 IsInTable-push compared w K g op (answers.NoEnt v) entries file writes h =

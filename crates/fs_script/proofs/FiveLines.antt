@@ -37,7 +37,7 @@ five_lines = record {
       lines.Op (on_a ops.Create)
       ∷ lines.Op (on_a (ops.Write 0 (Text (codes "hello"))))
       ∷ lines.Op (on_a ops.Sync)
-      ∷ lines.Op (on_a (ops.Read 1 3))
+      ∷ lines.Op (on_a (ops.Read 1 3 false))
       ∷ [];
 }
 
@@ -95,7 +95,7 @@ sync_fits = record {
   answer = refl;
 }
 
-read_fits : Fits-five 5 (on_a (ops.Read 1 3)) (answers.Shown 2 3 (bodies.Hex (codes "ell")))
+read_fits : Fits-five 5 (on_a (ops.Read 1 3 false)) (answers.Shown 2 3 (bodies.Hex (codes "ell")))
 read_fits = record {
   opened = refl;
   version = record { front = omega arith; length = omega arith; no_later = (record { phase = omega arith; own = λ _. omega arith }, (record { phase = omega arith; own = λ _. omega arith }, tt)) };

@@ -60,8 +60,10 @@ length-brought ops.Create is = omega arith
 length-brought ops.Open is = omega arith
 length-brought (ops.Write off text) is = length-data text is.1
 length-brought ops.Sync is = omega arith
-length-brought (ops.Read off len) is = omega arith
+length-brought (ops.Read off len own) is = omega arith
 length-brought ops.Size is = omega arith
+length-brought (ops.Trunc n) is = omega arith
+length-brought ops.Unlink is = omega arith
 
 -- no line writes more bytes than one line may move
 pub length-payload : (s : Job) (n : ℕ) → IsJob s → length (payload s n) ≤ TRANSFER_LIMIT

@@ -15,8 +15,10 @@ pub mod JournalGrows
 pub mod InReach
 pub mod Refused
 pub mod Cases
-mod TableCases
 pub mod TwoPhases
+mod TwoLives
+mod OwnReads
+mod TableCases
 mod MarkCases
 pub mod MarkedBytes
 pub mod MarksGrow

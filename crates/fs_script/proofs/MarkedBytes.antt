@@ -9,7 +9,7 @@ use Rattle.std.proofs.lemmas.Nat.{div-add-mod'}
 use Rattle.std.proofs.lemmas.List.{take-map, drop-map, ext_get_or}
 use Rattle.fs_types.specs.declared.limits.TheConstants.{LONGEST_FILE}
 use Rattle.fs_types.specs.Marks.{Mark, mark_of, marks_of}
-use Rattle.fs_types.specs.Overwrite.{extended, put}
+use Rattle.fs_types.specs.Overwrite.{extended, put, cut}
 use Rattle.fs_types.specs.PlainFile.{File, written}
 use Rattle.fs_script.specs.declared.line.OpLine.{OpLine}
 use Rattle.fs_script.specs.declared.line.Op.{Op}
@@ -17,7 +17,7 @@ use Rattle.fs_script.specs.declared.line.Op.TheVariants as ops
 use Rattle.fs_script.specs.Job.{Job, op_at}
 use Rattle.fs_script.specs.Payload.{Cells, payload, offset, bytes_of, marks_in}
 use Rattle.fs_script.specs.Pending.{Answering, pending_at}
-use Rattle.fs_script.specs.Effect.{put_lines, with_lines, is_enabled, makes, effect_in, effect, after_all, state_in, state}
+use Rattle.fs_script.specs.Effect.{put_lines, with_lines, cut_to, view_of, is_enabled, makes, effect_in, effect, after_all, state_in, state}
 use Rattle.fs_script.specs.FileMarks.{marks_at, marks_put, cells_of, marked_byte, file_map, marked_bytes}
 
 -- ---- what overwriting makes of the values of a function is the values of what it makes
@@ -32,6 +32,9 @@ module _ {X Y : Type 0} (h : X → Y) where
       ∙ ap (λ ys. map h xs ++ ys) (map-replicate (n - length xs) blank)
       ∙ ap (λ m. map h xs ++ replicate (n - m) (h blank)) (sym (length-map xs h))
 
+  map-cut : (blank : X) (xs : List X) (n : ℕ) → map h (cut blank xs n) ≡ cut (h blank) (map h xs) n
+  map-cut blank xs n = sym (take-map h n (extended blank xs n)) ∙ ap (take n) (map-extended blank xs n)
+
   pub map-put : (blank : X) (xs : List X) (off : ℕ) (ys : List X) → map h (put blank xs off ys) ≡ put (h blank) (map h xs) off (map h ys)
   map-put blank xs off [] = refl
   map-put blank xs off (y ∷ ys) =
@@ -40,7 +43,7 @@ module _ {X Y : Type 0} (h : X → Y) where
       map-append h (front ++ (y ∷ ys)) rest
       ∙ ap (λ zs. zs ++ map h rest) (map-append h front (y ∷ ys))
       ∙ ap (λ zs. zs ++ map h (y ∷ ys) ++ map h rest)
-      (sym (take-map h off (extended blank xs off)) ∙ ap (take off) (map-extended blank xs off))
+      (map-cut blank xs off)
       ∙ ap (λ zs. take off (extended (h blank) (map h xs) off) ++ map h (y ∷ ys) ++ zs)
       (sym (drop-map h (off + length (y ∷ ys)) xs) ∙ ap (λ n. drop (off + n) (map h xs)) (sym (length-map (y ∷ ys) h)))
 
@@ -55,6 +58,10 @@ module _ {X Y : Type 0} (h : X → Y) where
       ∙ ap (λ zs. cond (nat_le (off + length ys) LONGEST_FILE) zs (map h xs)) (map-put blank xs off ys)
       ∙ ap (λ n. cond (nat_le (off + n) LONGEST_FILE) (put (h blank) (map h xs) off (map h ys)) (map h xs)) (sym (length-map ys h))
 
+  file_map-cut_to : (blank : X) (n : ℕ) (f : File X) → file_map h (cut_to blank n f) ≡ cut_to (h blank) n (file_map h f)
+  file_map-cut_to blank n None = refl
+  file_map-cut_to blank n (Some f) = ap (λ ys. Some (record { cells = ys; frozen = f.frozen })) (map-cut blank f.cells n)
+
   -- a file is there, and may be changed, exactly where that of the values is and may be
   pub is_enabled-map : (op : Op) (f : File X) → is_enabled op (file_map h f) ≡ is_enabled op f
   is_enabled-map ops.Create None = refl
@@ -63,8 +70,12 @@ module _ {X Y : Type 0} (h : X → Y) where
   is_enabled-map (ops.Write off text) f = refl
   is_enabled-map ops.Sync None = refl
   is_enabled-map ops.Sync (Some f) = refl
-  is_enabled-map (ops.Read off len) f = refl
+  is_enabled-map (ops.Read off len own) f = refl
   is_enabled-map ops.Size f = refl
+  is_enabled-map (ops.Trunc n) None = refl
+  is_enabled-map (ops.Trunc n) (Some f) = refl
+  is_enabled-map ops.Unlink None = refl
+  is_enabled-map ops.Unlink (Some f) = refl
 
   file_map-cond : (b : Bool) (f g : File X) → file_map h (cond b f g) ≡ cond b (file_map h f) (file_map h g)
   file_map-cond true f g = refl
@@ -88,13 +99,20 @@ module _ {X Y : Type 0} (h : X → Y) (s : Job) (c : Cells X) (d : Cells Y) (tak
   file_map-with_lines q None = refl
   file_map-with_lines q (Some f) = ap (λ ys. Some (record { cells = ys; frozen = f.frozen })) (map-put_lines q f.cells)
 
+  file_map-view_of : (own : Bool) (q : List ℕ) (f : File X) → file_map h (view_of s c own q f) ≡ view_of s d own q (file_map h f)
+  file_map-view_of false q f = refl
+  file_map-view_of true q f = file_map-with_lines q f
+
   file_map-makes : (op : Op) (q : List ℕ) (f : File X) → file_map h (makes s c op q f) ≡ makes s d op q (file_map h f)
   file_map-makes ops.Create q f = refl
   file_map-makes ops.Open q f = refl
   file_map-makes (ops.Write off text) q f = refl
   file_map-makes ops.Sync q f = file_map-with_lines q f
-  file_map-makes (ops.Read off len) q f = refl
+  file_map-makes (ops.Read off len own) q f = refl
   file_map-makes ops.Size q f = refl
+  file_map-makes (ops.Trunc n) q f = file_map-cut_to h c.blank n (with_lines s c q f)
+      ∙ ap (λ b. cut_to b n (file_map h (with_lines s c q f))) takes.blank ∙ ap (cut_to d.blank n) (file_map-with_lines q f)
+  file_map-makes ops.Unlink q f = refl
 
   file_map-effect_in : (o : Option OpLine) (q : List ℕ) (f : File X) → file_map h (effect_in s c o q f) ≡ effect_in s d o q (file_map h f)
   file_map-effect_in None q f = refl
@@ -145,6 +163,11 @@ TakesCells-marks s some = record { blank = refl; lines = λ n. marked_byte-lines
 pub state-by_marks : (s : Job) (A : Answering) (J : List ℕ) (v : ℕ) → 0 < s.shape.chunk → marked_bytes s (marks_at s A J v) ≡ state s A J v
 state-by_marks s A J v some = file_map-state_in (marked_byte s) s (marks_in s) (bytes_of s) (TakesCells-marks s some) A J v
 
+-- what a client sees of a file, alone or with its own pending lines put over it
+pub view_of-by_marks : (s : Job) (own : Bool) (q : List ℕ) (f : File (Option Mark)) → 0 < s.shape.chunk
+    → marked_bytes s (view_of s (marks_in s) own q f) ≡ view_of s (bytes_of s) own q (marked_bytes s f)
+view_of-by_marks s own q f some = file_map-view_of (marked_byte s) s (marks_in s) (bytes_of s) (TakesCells-marks s some) own q f
+
 -- and what these lines bring to an empty file
 pub put_lines-by_marks : (s : Job) (ns : List ℕ) → 0 < s.shape.chunk → map (marked_byte s) (marks_put s ns) ≡ put_lines s (bytes_of s) ns []
 put_lines-by_marks s ns some = map-put_lines (marked_byte s) s (marks_in s) (bytes_of s) (TakesCells-marks s some) ns []
@@ -162,6 +185,13 @@ cells_of-file_map h (Some f) = refl
 frozen-file_map : {X Y : Type 0} (h : X → Y) (f : File X) → option_map (λ g. g.frozen) (file_map h f) ≡ option_map (λ g. g.frozen) f
 frozen-file_map h None = refl
 frozen-file_map h (Some f) = refl
+
+-- a client sees a file exactly where there is one
+pub is_some-view_of : {X : Type 0} (s : Job) (c : Cells X) (own : Bool) (q : List ℕ) (f : File X)
+    → is_some (view_of s c own q f) ≡ is_some f
+is_some-view_of s c false q f = refl
+is_some-view_of s c true q None = refl
+is_some-view_of s c true q (Some f) = refl
 
 module _ (s : Job) (A : Answering) (J : List ℕ) (v : ℕ) (some : 0 < s.shape.chunk) where
   pub is_some-marks_at : is_some (marks_at s A J v) ≡ is_some (state s A J v)

@@ -8,6 +8,8 @@ use Rattle.fs_types.proofs.Common.{◌≡◌, [], arith, None, ◌-◌, ◌<◌,
 use Rattle.fs_types.proofs.Common.{sym, subst, nat_le, ◌/◌, ◌%◌, IfSome, ◌*◌, ltb-true, cond_both, leb-true, and_parts, length-take}
 use Rattle.fs_types.proofs.Common.{length-drop, ℕ}
 use Rattle.fs_script.proofs.FileCells.{holds-state_in}
+use Rattle.fs_types.specs.Overwrite.{cut}
+use Rattle.fs_types.proofs.CallerLemmas.{get_or-cut_anywhere}
 
 module _ (s : Job) (some : 0 < s.shape.chunk) where
   -- each of these marks stands there
@@ -42,6 +44,11 @@ module _ (s : Job) (some : 0 < s.shape.chunk) where
   AreAtHome-put_lines (n ∷ ns) marks all =
       AreAtHome-put_lines ns (put_lines s (marks_in s) (n ∷ []) marks) (AreAtHome-line n marks all)
 
+  AreAtHome-cut : (n : ℕ) (marks : List (Option Mark)) → AreAtHome marks → AreAtHome (cut None marks n)
+  AreAtHome-cut n marks all k =
+      subst (λ m. IfSome m (λ x. IsAtHome s k x)) (sym (get_or-cut_anywhere None marks n k))
+      (cond_both (ltb k n) (get_or marks k None) None (λ m. IfSome m (λ x. IsAtHome s k x)) (λ _. all k) (λ _. tt))
+
   -- in what lines make of an empty file
   pub IsAtHome-marks_put : (ns : List ℕ) (k : ℕ) (m : Mark) → get_or (marks_put s ns) k None ≡ Some m → IsAtHome s k m
   IsAtHome-marks_put ns k m is = subst (λ x. IfSome x (λ y. IsAtHome s k y)) is (AreAtHome-put_lines ns [] (λ i. tt) k)
@@ -50,4 +57,5 @@ module _ (s : Job) (some : 0 < s.shape.chunk) where
   pub IsAtHome-marks_at : (A : Answering) (J : List ℕ) (v k : ℕ) (m : Mark) → get_or (cells_of (marks_at s A J v)) k None ≡ Some m
       → IsAtHome s k m
   IsAtHome-marks_at A J v k m is = subst (λ x. IfSome x (λ y. IsAtHome s k y)) is
-      (holds-state_in AreAtHome s (marks_in s) (λ i. tt) A (λ n. AreAtHome-put_lines (pending_at s A n)) J v k)
+      (holds-state_in AreAtHome s (marks_in s) (λ i. tt) A (λ n. AreAtHome-put_lines (pending_at s A n))
+      (λ n l m at is. AreAtHome-cut m) J v k)

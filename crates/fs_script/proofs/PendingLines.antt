@@ -1,7 +1,7 @@
 -- The lines that are pending: each is an operation of its client on its path, and was accepted.
 use Rattle.fs_types.proofs.Common.{◌≡◌, ℕ, zero, suc, ◌+◌, ◌-◌, ◌≤◌, ◌==◌, true, List, [], ◌∷◌, ◌++◌, length, Option, Some, None, IsSome}
 use Rattle.fs_types.proofs.Common.{is_some, refl, ap, ◌∙◌, arith}
-use Rattle.fs_types.proofs.Common.{cond_both, AllByRecursion}
+use Rattle.fs_types.proofs.Common.{cond_both, AllByRecursion, if◌then◌else◌}
 use Rattle.fs_types.specs.declared.answer.Answer.{Answer}
 use Rattle.fs_script.specs.declared.line.OpLine.{OpLine}
 use Rattle.fs_script.specs.declared.line.Op.{Op}
@@ -23,6 +23,9 @@ module _ (s : Job) (A : Answering) (r : ℕ) (p : List ℕ) where
   abbrev AllAccepted : List ℕ → Type 0
   AllAccepted q = AllByRecursion (IsAcceptedLine s A r p) q
 
+  AllAccepted-emptied : (a : Answer) (q : List ℕ) → AllAccepted q → AllAccepted (if empties a then [] else q)
+  AllAccepted-emptied a q all = cond_both (empties a) [] q AllAccepted (λ _. tt) (λ _. all)
+
   AllAccepted-after : (op : Op) (a : Answer) (n : ℕ) (q : List ℕ) → own_at s r p n ≡ Some op → A n ≡ Some a → AllAccepted q
       → AllAccepted (after_answer op a n q)
   AllAccepted-after ops.Create a n q own answered all = all
@@ -36,9 +39,11 @@ module _ (s : Job) (A : Answering) (r : ℕ) (p : List ℕ) where
         accepted = ap was_accepted answered ∙ accepted;
       })))
       (λ _. all)
-  AllAccepted-after ops.Sync a n q own answered all = cond_both (empties a) [] q AllAccepted (λ _. tt) (λ _. all)
-  AllAccepted-after (ops.Read off len) a n q own answered all = all
+  AllAccepted-after ops.Sync a n q own answered all = AllAccepted-emptied a q all
+  AllAccepted-after (ops.Read off len over) a n q own answered all = all
   AllAccepted-after ops.Size a n q own answered all = all
+  AllAccepted-after (ops.Trunc size) a n q own answered all = AllAccepted-emptied a q all
+  AllAccepted-after ops.Unlink a n q own answered all = AllAccepted-emptied a q all
 
   AllAccepted-one_more : (o : Option Op) (b : Option Answer) (n : ℕ) (q : List ℕ) → own_at s r p n ≡ o → A n ≡ b → AllAccepted q
       → AllAccepted (one_more after_answer o b n q)

@@ -8,11 +8,11 @@ use Rattle.fs_script.specs.declared.line.Op.TheVariants as ops
 use Rattle.std.proofs.lemmas.List.Folds.{Any-from_list_any}
 use Rattle.fs_types.proofs.Common.{or_left, or_right, ◌≡◌, [], arith, None, ap, ◌<◌, length, refl, suc, ◌≤◌, List, ◌∷◌, ◌++◌, ◌∙◌, inl, inr}
 use Rattle.fs_types.proofs.Common.{Option, Some, ◌≢◌, sym, subst, ◌==◌, true, bytes_eq, ◌⊎◌, IsSome, true≢false, ◌||◌, cond_both, cases_eq}
-use Rattle.fs_types.proofs.Common.{cases_Bool, false≢true, or_cases, length_push, same_Some, bytes_eq-Decides, ℕ}
+use Rattle.fs_types.proofs.Common.{Bool, false, cases_Bool, false≢true, or_cases, length_push, same_Some, bytes_eq-Decides, ℕ, if◌then◌else◌}
 use Rattle.fs_script.specs.Vocabulary.{Answer, Mark, Piece, is_enabled, effect_in, makes, Job, rank_at, op_at, rank_in, own_at, need}
 use Rattle.fs_script.specs.Vocabulary.{marks_at, marks_put, cells_of, present_marks, bears, named_paths, is_live, past_lines, pending_marks}
 use Rattle.fs_script.specs.Vocabulary.{is_pending, JournalsByPath, IsLegalJournal, marks_in, Answering, pending_at, pending, pending_for}
-use Rattle.fs_script.specs.Vocabulary.{one_more, after_answer, IsNextAnswer, Pushes, Op, OpLine}
+use Rattle.fs_script.specs.Vocabulary.{one_more, after_answer, ComesNext, IsNextAnswer, Pushes, Op, OpLine}
 use Rattle.fs_script.proofs.Agreement.{pending-agree}
 use Rattle.fs_script.proofs.Jobs.{op_at-within}
 use Rattle.fs_script.proofs.JournalGrows.{own_op-rank, AgreeBefore-next, pending_at-next, pending_at-in_journal}
@@ -20,7 +20,8 @@ use Rattle.fs_script.proofs.LivePaths.{named-passes, live-by_any_path, pending-b
 use Rattle.fs_script.proofs.LivePieces.{IsPart, IsPart-lines}
 use Rattle.fs_script.proofs.MarksGrow.{marks_at-push_last, marks_put-append, marks_at-agree, present_marks-agree, pending_marks-agree}
 use Rattle.fs_script.proofs.PendingLines.{pending-past}
-use Rattle.fs_script.proofs.PutLines.{bears-put_lines}
+use Rattle.fs_script.proofs.PutLines.{bears-put_lines, bears-cut}
+use Rattle.fs_script.specs.Effect.{with_lines, cut_to, view_of}
 
 -- a piece of line n, which is client r's, and whose bytes were accepted
 pub record IsNewPiece (s : Job) (n : ℕ) (o : OpLine) (a : Answer) (r : ℕ) (x : Piece) : Type 0 where
@@ -36,14 +37,23 @@ module _ (s : Job) (x : Piece) where
   abbrev WasBorne : List ℕ → File (Option Mark) → Type 0
   WasBorne q f = (bears (cells_of f) x || bears (marks_put s q) x) ≡ true
 
+  with_lines-bears : (q : List ℕ) (f : File (Option Mark)) → bears (cells_of (with_lines s (marks_in s) q f)) x ≡ true → WasBorne q f
+  with_lines-bears q None borne = absurd (false≢true borne)
+  with_lines-bears q (Some f) borne = bears-put_lines s q f.cells x borne
+
+  cut_to-bears : (n : ℕ) (f : File (Option Mark)) → bears (cells_of (cut_to None n f)) x ≡ true → bears (cells_of f) x ≡ true
+  cut_to-bears n None borne = borne
+  cut_to-bears n (Some f) borne = bears-cut f.cells n x borne
+
   makes-bears : (op : Op) (q : List ℕ) (f : File (Option Mark)) → bears (cells_of (makes s (marks_in s) op q f)) x ≡ true → WasBorne q f
   makes-bears ops.Create q f borne = absurd (false≢true borne)
   makes-bears ops.Open q f borne = or_left (bears (cells_of f) x) (bears (marks_put s q) x) borne
   makes-bears (ops.Write off text) q f borne = or_left (bears (cells_of f) x) (bears (marks_put s q) x) borne
-  makes-bears ops.Sync q None borne = absurd (false≢true borne)
-  makes-bears ops.Sync q (Some f) borne = bears-put_lines s q f.cells x borne
-  makes-bears (ops.Read off len) q f borne = or_left (bears (cells_of f) x) (bears (marks_put s q) x) borne
+  makes-bears ops.Sync q f borne = with_lines-bears q f borne
+  makes-bears (ops.Read off len own) q f borne = or_left (bears (cells_of f) x) (bears (marks_put s q) x) borne
   makes-bears ops.Size q f borne = or_left (bears (cells_of f) x) (bears (marks_put s q) x) borne
+  makes-bears (ops.Trunc n) q f borne = with_lines-bears q f (cut_to-bears n (with_lines s (marks_in s) q f) borne)
+  makes-bears ops.Unlink q f borne = absurd (false≢true borne)
 
   effect-bears : (o : Option OpLine) (q : List ℕ) (f : File (Option Mark)) → bears (cells_of (effect_in s (marks_in s) o q f)) x ≡ true
       → WasBorne q f
@@ -51,6 +61,12 @@ module _ (s : Job) (x : Piece) where
   effect-bears (Some o) q f borne = cond_both (is_enabled o.op f) (makes s (marks_in s) o.op q f) f
       (λ g. bears (cells_of g) x ≡ true → WasBorne q f)
       (λ _. makes-bears o.op q f) (λ _. or_left (bears (cells_of f) x) (bears (marks_put s q) x)) borne
+
+  -- what a client sees of a file bears no other piece either
+  pub view_of-bears : (own : Bool) (q : List ℕ) (f : File (Option Mark)) → bears (cells_of (view_of s (marks_in s) own q f)) x ≡ true
+      → WasBorne q f
+  view_of-bears false q f borne = or_left (bears (cells_of f) x) (bears (marks_put s q) x) borne
+  view_of-bears true q f borne = with_lines-bears q f borne
 
 -- ---- what is pending after an answer bears
 
@@ -71,22 +87,27 @@ module _ (s : Job) (some : 0 < s.shape.chunk) (x : Piece) (n : ℕ) where
         | inr new ↦ inr (IsPart-lines s some (λ m. m ≡ n) (n ∷ []) x (refl, tt) new, accepted)
       ])
 
+  emptied-bears : (a : Answer) (q : List ℕ) → bears (marks_put s (if empties a then [] else q)) x ≡ true → WasPending a q
+  emptied-bears a q = cond_both (empties a) [] q (λ ns. bears (marks_put s ns) x ≡ true → WasPending a q)
+      (λ _ borne. absurd (false≢true borne)) (λ _ borne. inl borne)
+
   answer-bears : (op : Op) (a : Answer) (q : List ℕ) → bears (marks_put s (after_answer op a n q)) x ≡ true → WasPending a q
   answer-bears ops.Create a q borne = inl borne
   answer-bears ops.Open a q borne = inl borne
   answer-bears (ops.Write off text) a q borne = cond_both (is_accepted a) (with_write n (write_of off text).bytes q) q
       (λ ns. bears (marks_put s ns) x ≡ true → WasPending a q) (write-bears a (write_of off text).bytes q)
       (λ _ is. inl is) borne
-  answer-bears ops.Sync a q borne = cond_both (empties a) [] q (λ ns. bears (marks_put s ns) x ≡ true → WasPending a q)
-      (λ _ is. absurd (false≢true is)) (λ _ is. inl is) borne
-  answer-bears (ops.Read off len) a q borne = inl borne
+  answer-bears ops.Sync a q borne = emptied-bears a q borne
+  answer-bears (ops.Read off len own) a q borne = inl borne
   answer-bears ops.Size a q borne = inl borne
+  answer-bears (ops.Trunc size) a q borne = emptied-bears a q borne
+  answer-bears ops.Unlink a q borne = emptied-bears a q borne
 
--- ---- the next answer
+-- ---- a line that comes next
 
-module _ {s : Job} {A B : Answering} {n : ℕ} {o : OpLine} {a : Answer} (here : IsNextAnswer s A n o a B) where
+module _ {s : Job} {A : Answering} {n : ℕ} {o : OpLine} (is : op_at s n ≡ Some o) (next : ComesNext s A n) where
   within : n ≤ past_lines s
-  within = omega (arith, (op_at-within s n o here.op).1)
+  within = omega (arith, (op_at-within s n o is).1)
 
   -- its client has no answer from there on
   own-unanswered : (p : List ℕ) (k : ℕ) → n ≤ k → IsSome (own_at s o.rank p k) → A k ≡ None
@@ -94,21 +115,31 @@ module _ {s : Job} {A B : Answering} {n : ℕ} {o : OpLine} {a : Answer} (here :
     by : (b : Option Answer) → A k ≡ b → A k ≡ None
     by None e = e
     by (Some b) e =
-        let before = here.next.last k b e (own_op-rank o.rank p (op_at s k) own ∙ sym (ap rank_in here.op)) in
+        let before = next.last k b e (own_op-rank o.rank p (op_at s k) own ∙ sym (ap rank_in is)) in
         absurd (omega arith)
 
   -- so what is pending at it is pending after all that the client was answered
   pending-now : (p : List ℕ) → pending s A o.rank p (past_lines s) ≡ pending s A o.rank p n
   pending-now p = pending-past s A o.rank p n (own-unanswered p) within
 
-  -- and with its answer what that leaves
+  -- and its pieces are pending for the client
+  pub is_pending-now : 0 < s.shape.chunk → (p : List ℕ) (x : Piece) → bears (marks_put s (pending s A o.rank p n)) x ≡ true
+      → is_pending s A o.rank x ≡ true
+  is_pending-now some p x borne =
+      pending-by_any_path s A o.rank p x some (ap (λ q. bears (marks_put s q) x) (pending-now p) ∙ borne)
+
+-- ---- the next answer
+
+module _ {s : Job} {A B : Answering} {n : ℕ} {o : OpLine} {a : Answer} (here : IsNextAnswer s A n o a B) where
+  -- what is pending after all that its client was answered is what the answer leaves of that
   pending-then : (p : List ℕ) → pending s B o.rank p (past_lines s)
       ≡ one_more after_answer (own_at s o.rank p n) (B n) n (pending s A o.rank p (past_lines s))
   pending-then p =
-      pending-past s B o.rank p (suc n) (λ k past own. here.adds.others k (λ e. omega arith) ∙ own-unanswered p k (omega arith) own)
+      pending-past s B o.rank p (suc n)
+      (λ k past own. here.adds.others k (λ e. omega arith) ∙ own-unanswered here.op here.next p k (omega arith) own)
       (omega (arith, (op_at-within s n o here.op).1))
       ∙ ap (one_more after_answer (own_at s o.rank p n) (B n) n)
-      (sym (pending-agree s o.rank p A B n (AgreeBefore-next s o.rank p n here.adds (omega arith))) ∙ sym (pending-now p))
+      (sym (pending-agree s o.rank p A B n (AgreeBefore-next s o.rank p n here.adds (omega arith))) ∙ sym (pending-now here.op here.next p))
 
   module _ (some : 0 < s.shape.chunk) (x : Piece) where
     own-pending : (p : List ℕ) → bears (pending_marks s B o.rank p) x ≡ true
@@ -162,7 +193,7 @@ module _ {s : Job} {A B : Answering} {n : ℕ} {o : OpLine} {a : Answer} (here :
         let same = marks_at-agree s A B J (length J) (pending_at-in_journal here.adds here.next (legal o.path)) in
         let made = ap cells_of (marks_at-push_last s B J n (length (J ++ n ∷ [])) (omega (arith, length_push J n))) in
         let is = effect-bears s x (op_at s n) (pending_at s B n) (marks_at s B J (length J)) (ap (λ ms. bears ms x) (sym made) ∙ borne) in
-        let q = sym (pending_at-next s here.adds) ∙ ap (pending_for s A n) here.op ∙ sym (pending-now o.path) in
+        let q = sym (pending_at-next s here.adds) ∙ ap (pending_for s A n) here.op ∙ sym (pending-now here.op here.next o.path) in
         let before = (λ i. bears (cells_of (same i)) x || bears (marks_put s (sym q i)) x) ∙ is in
         elim (or_cases (bears (present_marks s A J) x) (bears (pending_marks s A o.rank o.path) x) before) [
           | inl live ↦ or_left (is_live s A journals x) (is_pending s A o.rank x)

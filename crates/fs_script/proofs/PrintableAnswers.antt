@@ -9,13 +9,14 @@ use Rattle.fs_types.specs.declared.limits.TheConstants.{HEX_LIMIT}
 use Rattle.fs_script.specs.Grammar.{IsJob, IsOp}
 use Rattle.fs_types.proofs.CallerLemmas.{length-shown}
 use Rattle.fs_script.proofs.Digests.{IsDigest-md5}
-use Rattle.fs_script.proofs.FileBytes.{AllBytes, IsWithinLimits, IsWithinLimits-state}
+use Rattle.fs_script.proofs.FileBytes.{AllBytes, IsWithinLimits, IsWithinLimits-state, IsWithinLimits-view_of}
 use Rattle.fs_script.proofs.Jobs.{IsOpLine-from_job, length-data}
 use Rattle.fs_script.proofs.JournalLines.{length-journal}
 use Rattle.fs_types.specs.declared.answer.Answer.TheVariants as answers
 use Rattle.fs_types.specs.declared.answer.Body.TheVariants as bodies
 use Rattle.fs_script.specs.declared.line.Op.TheVariants as ops
-use Rattle.fs_script.specs.Fits.{IsSized}
+use Rattle.fs_script.specs.Fits.{ShowsRange, IsSized}
+use Rattle.fs_script.specs.Pending.{pending}
 use Rattle.fs_script.specs.Payload.{data_bytes}
 
 -- ---- slots
@@ -26,8 +27,10 @@ slots_are_few w ops.Create slots is accepts = absurd accepts
 slots_are_few w ops.Open slots is accepts = absurd accepts
 slots_are_few w (ops.Write off text) slots is accepts = omega (arith, length-data text is.1, div-le_self (length (data_bytes text)) w.chunk)
 slots_are_few w ops.Sync slots is accepts = absurd accepts
-slots_are_few w (ops.Read off len) slots is accepts = absurd accepts
+slots_are_few w (ops.Read off len own) slots is accepts = absurd accepts
 slots_are_few w ops.Size slots is accepts = absurd accepts
+slots_are_few w (ops.Trunc n) slots is accepts = absurd accepts
+slots_are_few w ops.Unlink slots is accepts = absurd accepts
 
 -- and a write that finds too few slots free needs no more
 need_is_small : (w : LineView) (op : Op) (need free : ℕ) → IsOp op → LacksSpace w (brought op) need free → (need < 2 ^ 64) × (free < 2 ^ 64)
@@ -37,8 +40,10 @@ need_is_small w (ops.Write off text) need free is lacks =
     let few : need < 2 ^ 64 = omega (arith, length-data text is.1, div-le_self (length (data_bytes text)) w.chunk, lacks.need) in
     (few, omega (arith, lacks.few))
 need_is_small w ops.Sync need free is lacks = absurd lacks
-need_is_small w (ops.Read off len) need free is lacks = absurd lacks
+need_is_small w (ops.Read off len own) need free is lacks = absurd lacks
 need_is_small w ops.Size need free is lacks = absurd lacks
+need_is_small w (ops.Trunc n) need free is lacks = absurd lacks
+need_is_small w ops.Unlink need free is lacks = absurd lacks
 
 -- ---- what a read shows
 
@@ -50,17 +55,23 @@ IsPrintableBody-body_of bytes are =
     (λ _. IsDigest-md5 bytes)
 
 -- a range of a file has no more bytes than the file
-range_is_printable : (compared : Type 0) (x : Option Range) (f : File ℕ) (n : ℕ) (body : Body)
-    → compared → IsWithinLimits f → ShowsAsked compared x f n body → (n < 2 ^ 64) × IsPrintableBody body
-range_is_printable compared None f n body told within shows = absurd shows
-range_is_printable compared (Some x) None n body told within shows = absurd shows
-range_is_printable compared (Some x) (Some f) n body told within shows =
+range_is_printable : (compared : Type 0) (x : Range) (f : File ℕ) (n : ℕ) (body : Body)
+    → compared → IsWithinLimits f → ShowsRange compared x f n body → (n < 2 ^ 64) × IsPrintableBody body
+range_is_printable compared x None n body told within shows = absurd shows
+range_is_printable compared x (Some f) n body told within shows =
     let range = shown f.cells x.off x.len in
     let rest = All-drop (λ b. b < 256) x.off f.cells within.bytes in
     let bytes = All-take (λ b. b < 256) x.len (drop x.off f.cells) rest in (
       omega (arith, shows.count, length-shown f.cells x.off x.len),
       subst IsPrintableBody (sym (shows.same told)) (IsPrintableBody-body_of range bytes),
     )
+
+-- so is what is shown of what a client sees, where that is within the limits
+asked_is_printable : (compared : Type 0) (w : LineView) (x : Option Range) (f : File ℕ) (n : ℕ) (body : Body)
+    → compared → ((own : Bool) → IsWithinLimits (w.sees own f)) → ShowsAsked compared w x f n body → (n < 2 ^ 64) × IsPrintableBody body
+asked_is_printable compared w None f n body told within shows = absurd shows
+asked_is_printable compared w (Some x) f n body told within shows =
+    range_is_printable compared x (w.sees x.own f) n body told (within x.own) shows
 
 -- a file is no longer than the longest
 size_is_printable : (f : File ℕ) (n : ℕ) (frozen : Bool) → IsWithinLimits f → IsSized f n frozen → n < 2 ^ 64
@@ -85,7 +96,8 @@ IsPrintableAnswer-fits {told} {s} {A} {J} {n} {o} {a} job all legal is fits = by
         (omega (arith, fit.version.length, few), size_is_printable (state s A J v) m frozen (IsWithinLimits-state s job A J v) fit.answer.1)
     by (answers.Shown v m body) fit =
         let file = IsWithinLimits-state s job A J v in
-        let range = range_is_printable (AreTold s told) (asked o.op) (state s A J v) m body all file fit.answer in
+        let sees = λ (own : Bool). IsWithinLimits-view_of s job own (pending s A o.rank o.path n) (state s A J v) file in
+        let range = asked_is_printable (AreTold s told) (line_view s A J n o) (asked o.op) (state s A J v) m body all sees fit.answer in
         record { version = omega (arith, fit.version.length, few); count = range.0; shown = range.1 }
     by answers.BadF fit = tt
     by (answers.Exists v) fit = omega (arith, fit.version.length, few)

@@ -2,11 +2,11 @@
 -- empty file, and what was there under that.
 use Rattle.std.specs.Option.{option_or}
 use Rattle.fs_script.specs.Live.{is_of_piece}
-use Rattle.fs_types.specs.Overwrite.{put}
+use Rattle.fs_types.specs.Overwrite.{put, cut}
 use Rattle.std.proofs.Math.Bool.{or-true}
 use Rattle.std.proofs.lemmas.List.{get_or_default}
 use Rattle.std.proofs.lemmas.List.Folds.{Any-from_list_any}
-use Rattle.fs_types.proofs.CallerLemmas.{length-put}
+use Rattle.fs_types.proofs.CallerLemmas.{length-put, get_or-cut_anywhere}
 use Rattle.fs_script.specs.Vocabulary.{written, Mark, mark_of, Piece, LONGEST_FILE, put_lines, Job, marks_put, bears, Cells, offset}
 use Rattle.fs_script.specs.Vocabulary.{payload, marks_in}
 use Rattle.fs_types.proofs.Common.{◌≡◌, [], arith, None, ap, ◌-◌, length, refl, zero, suc, ◌+◌, max, cond, ltb, leb, List, ◌∷◌, get_or, ◌∙◌}
@@ -109,6 +109,14 @@ pub bears-place : (marks : List (Option Mark)) (x : Piece) → bears marks x ≡
 bears-place marks x borne =
     let h = Any-from_list_any (is_of_piece x) marks borne in
     (h.0, ap (is_of_piece x) (get_or_default marks h.0 None h.1 h.2 ∙ h.3) ∙ h.4)
+
+-- what a cut leaves bears no other piece
+pub bears-cut : (marks : List (Option Mark)) (n : ℕ) (x : Piece) → bears (cut None marks n) x ≡ true → bears marks x ≡ true
+bears-cut marks n x borne =
+    let h = bears-place (cut None marks n) x borne in
+    cond_both (ltb h.0 n) (get_or marks h.0 None) None (λ m. is_of_piece x m ≡ true → bears marks x ≡ true)
+    (λ _ is. bears-at marks h.0 x is) (λ _ is. absurd (true≢false (sym is)))
+    (ap (is_of_piece x) (sym (get_or-cut_anywhere None marks n h.0)) ∙ h.1)
 
 module _ (s : Job) (ns : List ℕ) (xs : List (Option Mark)) (x : Piece) where
   -- a piece that it bears was borne by the file, or is by what the lines make of an empty one

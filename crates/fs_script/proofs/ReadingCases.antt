@@ -1,10 +1,11 @@
 -- Scripts inside and outside the grammar that reading decides by computing.
-use Rattle.std.proofs.Common.{◌≡◌, ℕ, ◌++◌, List, [], ◌∷◌, length, Some, None, Ok, Err, refl}
+use Rattle.std.proofs.Common.{◌≡◌, ℕ, ◌++◌, true, false, List, [], ◌∷◌, length, Some, None, Ok, Err, refl}
 use Rattle.std.specs.Prelude.{codes}
 use Rattle.fs_script.specs.declared.fault.ScriptFault.TheVariants as faults
 use Rattle.fs_script.specs.declared.fault.Reason.{Reason}
 use Rattle.fs_script.specs.declared.fault.Reason.TheVariants as reasons
 use Rattle.fs_script.specs.declared.line.Line.TheVariants as lines
+use Rattle.fs_script.specs.declared.line.Op.{Op}
 use Rattle.fs_script.specs.declared.line.Op.TheVariants as ops
 use Rattle.fs_script.specs.declared.line.Data.TheVariants.{Pattern}
 use Rattle.fs_script.specs.declared.read.line_fault.LineFault.TheVariants.{Bad, OverLimit}
@@ -58,7 +59,7 @@ two_job = record {
       ∷ lines.Barrier
       ∷ lines.Op (record { rank = 1; path = path_a; op = ops.Write 8 (Pattern 7 4) })
       ∷ lines.Note
-      ∷ lines.Op (record { rank = 1; path = path_a; op = ops.Read 0 16777216 })
+      ∷ lines.Op (record { rank = 1; path = path_a; op = ops.Read 0 16777216 false })
       ∷ [];
 }
 
@@ -120,8 +121,8 @@ form_before_limits = refl
 abbrev IsBadLine : Reason → List ℕ → Type 0
 IsBadLine reason line = line_of two_shape line ≡ Err (Bad reason)
 
-abbrev MovesTooMuch : List ℕ → Type 0
-MovesTooMuch line = line_of two_shape line ≡ Err OverLimit
+abbrev IsPastLimit : List ℕ → Type 0
+IsPastLimit line = line_of two_shape line ≡ Err OverLimit
 
 rank_of_no_client : IsBadLine reasons.Rank (codes "2 create /unifyfs/a")
 rank_of_no_client = refl
@@ -159,11 +160,56 @@ no_payload = refl
 length_missing : IsBadLine reasons.Data (codes "0 write /unifyfs/a 0 p:7")
 length_missing = refl
 
-read_too_long : MovesTooMuch (codes "0 read /unifyfs/a 0 16777217")
+read_too_long : IsPastLimit (codes "0 read /unifyfs/a 0 16777217")
 read_too_long = refl
 
-pattern_too_long : MovesTooMuch (codes "0 write /unifyfs/a 0 p:0:4294967299")
+pattern_too_long : IsPastLimit (codes "0 write /unifyfs/a 0 p:0:4294967299")
 pattern_too_long = refl
+
+-- ---- a read with own writes, a cut and an unlink
+
+abbrev Reads : List ℕ → Op → Type 0
+Reads line op = line_of two_shape line ≡ Ok (lines.Op (record { rank = 0; path = path_a; op = op }))
+
+own_read : Reads (codes "0 readown /unifyfs/a 7 16777216") (ops.Read 7 16777216 true)
+own_read = refl
+
+own_read_too_long : IsPastLimit (codes "0 readown /unifyfs/a 7 16777217")
+own_read_too_long = refl
+
+own_read_without_length : IsBadLine reasons.Words (codes "0 readown /unifyfs/a 7")
+own_read_without_length = refl
+
+longest_cut : Reads (codes "0 trunc /unifyfs/a 1099511627776") (ops.Trunc 1099511627776)
+longest_cut = refl
+
+cut_too_long : IsPastLimit (codes "0 trunc /unifyfs/a 1099511627777")
+cut_too_long = refl
+
+-- one past the greatest number is none
+cut_to_no_number : IsBadLine reasons.Number (codes "0 trunc /unifyfs/a 18446744073709551616")
+cut_to_no_number = refl
+
+cut_to_a_word : IsBadLine reasons.Number (codes "0 trunc /unifyfs/a x")
+cut_to_a_word = refl
+
+cut_without_length : IsBadLine reasons.Words (codes "0 trunc /unifyfs/a")
+cut_without_length = refl
+
+cut_with_a_word_more : IsBadLine reasons.Words (codes "0 trunc a x 1")
+cut_with_a_word_more = refl
+
+path_before_length : IsBadLine reasons.Path (codes "0 trunc a x")
+path_before_length = refl
+
+rank_before_words : IsBadLine reasons.Rank (codes "2 trunc /unifyfs/a")
+rank_before_words = refl
+
+unlinked : Reads (codes "0 unlink /unifyfs/a") ops.Unlink
+unlinked = refl
+
+unlink_with_a_word_more : IsBadLine reasons.Words (codes "0 unlink /unifyfs/a x")
+unlink_with_a_word_more = refl
 
 -- ---- the order of the faults of a script
 
@@ -184,6 +230,9 @@ limit_before_bad = refl
 
 bad_before_limit : job_of (two_header ++ codes "\n\nx\n0 read /unifyfs/a 0 16777217") ≡ Err (faults.BadLine 3 reasons.Rank)
 bad_before_limit = refl
+
+cut_past_the_limit : job_of (two_header ++ codes "\n\n0 trunc /unifyfs/a 1099511627777") ≡ Err (faults.OverLimit 3)
+cut_past_the_limit = refl
 
 header_before_lines : job_of (codes "unifyfs 1 servers=1 clients=65 chunk=64 shmem=4 spill=0\nx") ≡ Err (faults.OverLimit 1)
 header_before_lines = refl

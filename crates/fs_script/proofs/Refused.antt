@@ -1,6 +1,6 @@
 -- What the definitions refuse, at the script of five lines: a read of too old a version, a read with one byte changed,
 -- and journals with a line twice, without a line, or out of order.
-use Rattle.fs_types.proofs.Common.{◌≡◌, ℕ, zero, suc, ◌<◌, [], ◌∷◌, slice_index_or, refl, sym, inl, true≢false, arith, codes, same_Some}
+use Rattle.fs_types.proofs.Common.{◌≡◌, ℕ, zero, suc, ◌<◌, false, [], ◌∷◌, slice_index_or, refl, sym, inl, true≢false, arith, codes, same_Some}
 use Rattle.fs_script.specs.Vocabulary.{answer_at, Text, Answering, IsLegalJournal}
 use Rattle.fs_script.proofs.FiveLines.{path_a, on_a, five_lines, five_answers, Fits-five}
 use Rattle.fs_types.specs.declared.answer.Answer.TheVariants as answers
@@ -8,28 +8,28 @@ use Rattle.fs_types.specs.declared.answer.Body.TheVariants as bodies
 use Rattle.fs_script.specs.declared.line.Op.TheVariants as ops
 
 -- the client saw version 2, so it can't find no file
-no_file_refused : Fits-five 5 (on_a (ops.Read 1 3)) (answers.NoEnt 0) → ⊥
+no_file_refused : Fits-five 5 (on_a (ops.Read 1 3 false)) (answers.NoEnt 0) → ⊥
 no_file_refused h = omega (arith, h.version.front)
 
 -- nor the empty file of version 1
-old_version_refused : Fits-five 5 (on_a (ops.Read 1 3)) (answers.Shown 1 0 (bodies.Hex [])) → ⊥
+old_version_refused : Fits-five 5 (on_a (ops.Read 1 3 false)) (answers.Shown 1 0 (bodies.Hex [])) → ⊥
 old_version_refused h = omega (arith, h.version.front)
 
 third_byte : (a b x y : ℕ) → bodies.Hex (a ∷ b ∷ x ∷ []) ≡ bodies.Hex (a ∷ b ∷ y ∷ []) → x ≡ y
 third_byte a b x y h = cc
 
-changed_byte_refused : Fits-five 5 (on_a (ops.Read 1 3)) (answers.Shown 2 3 (bodies.Hex (codes "elm"))) → ⊥
+changed_byte_refused : Fits-five 5 (on_a (ops.Read 1 3 false)) (answers.Shown 2 3 (bodies.Hex (codes "elm"))) → ⊥
 changed_byte_refused h = omega (arith, third_byte 101 108 109 108 (h.answer.same (inl refl)))
 
-wrong_count_refused : Fits-five 5 (on_a (ops.Read 1 3)) (answers.Shown 2 4 (bodies.Hex (codes "ell"))) → ⊥
+wrong_count_refused : Fits-five 5 (on_a (ops.Read 1 3 false)) (answers.Shown 2 4 (bodies.Hex (codes "ell"))) → ⊥
 wrong_count_refused h = omega (arith, h.answer.count)
 
 -- the path is open
-not_open_refused : Fits-five 5 (on_a (ops.Read 1 3)) answers.BadF → ⊥
+not_open_refused : Fits-five 5 (on_a (ops.Read 1 3 false)) answers.BadF → ⊥
 not_open_refused h = true≢false h.opened
 
 -- a version that isn't there yet
-version_to_come_refused : Fits-five 5 (on_a (ops.Read 1 3)) (answers.Shown 3 3 (bodies.Hex (codes "ell"))) → ⊥
+version_to_come_refused : Fits-five 5 (on_a (ops.Read 1 3 false)) (answers.Shown 3 3 (bodies.Hex (codes "ell"))) → ⊥
 version_to_come_refused h = omega (arith, h.version.length)
 
 -- five bytes fill one slot

@@ -1,6 +1,6 @@
 -- Two clients round a barrier, worked out by hand: the phases and the fronts of their lines, what a line may print that knows
 -- of the phase before, and a journal in which a later phase's line stands too early.
-use Rattle.std.proofs.Common.{◌≡◌, ℕ, List, [], ◌∷◌, Some, refl, arith}
+use Rattle.std.proofs.Common.{◌≡◌, ℕ, false, List, [], ◌∷◌, Some, refl, arith}
 use Rattle.std.specs.Prelude.{codes}
 use Rattle.fs_types.specs.declared.answer.Answer.{Answer}
 use Rattle.fs_types.specs.declared.answer.Answer.TheVariants as answers
@@ -32,7 +32,7 @@ two_phases = record {
       ∷ lines.Op (on_a ops.Sync)
       ∷ lines.Op (other_on_a ops.Open)
       ∷ lines.Barrier
-      ∷ lines.Op (other_on_a (ops.Read 0 2))
+      ∷ lines.Op (other_on_a (ops.Read 0 2 false))
       ∷ lines.Op (other_on_a (ops.Write 0 (Text (codes "x"))))
       ∷ lines.Op (other_on_a ops.Sync)
       ∷ [];
@@ -112,7 +112,7 @@ open_before_create = record {
 open_of_a_later_phase_refused : Fits-two 5 (other_on_a ops.Open) (answers.Done 3) → ⊥
 open_of_a_later_phase_refused h = omega (arith, h.version.no_later.1.1.0.phase)
 
-read_of_both_commits : Fits-two 7 (other_on_a (ops.Read 0 2)) (answers.Shown 2 2 (bodies.Hex (codes "hi")))
+read_of_both_commits : Fits-two 7 (other_on_a (ops.Read 0 2 false)) (answers.Shown 2 2 (bodies.Hex (codes "hi")))
 read_of_both_commits = record {
   opened = refl;
   version = record {
@@ -124,7 +124,7 @@ read_of_both_commits = record {
 }
 
 -- the empty file of version 1 is what client 1 saw before the barrier
-read_before_the_barrier_refused : Fits-two 7 (other_on_a (ops.Read 0 2)) (answers.Shown 1 0 (bodies.Hex [])) → ⊥
+read_before_the_barrier_refused : Fits-two 7 (other_on_a (ops.Read 0 2 false)) (answers.Shown 1 0 (bodies.Hex [])) → ⊥
 read_before_the_barrier_refused h = omega (arith, h.version.front)
 
 open_after_the_barrier_finds_a_file : Fits-two 7 (other_on_a ops.Open) (answers.NoEnt 0) → ⊥

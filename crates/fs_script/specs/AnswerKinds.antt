@@ -67,7 +67,7 @@ is_badf (answers.TooBigAt v) = false
 is_badf (answers.NoSpace need free) = false
 is_badf (answers.DevFault rank) = false
 
--- an operation that takes in what is pending leaves nothing pending with this answer
+-- an operation that takes in or drops what is pending leaves nothing pending with this answer
 abbrev pub empties : Answer → Bool
 empties (answers.Done v) = true
 empties (answers.Wrote slots) = true

@@ -1,5 +1,6 @@
 -- What a committing line does to a file, and the file after some lines of a journal.
 use Rattle.std.specs.Prelude.{ℕ, Bool, false, not, is_some, List, [], ◌∷◌, take, Option, Some, None, if◌then◌else◌}
+use Rattle.fs_types.specs.Overwrite.{cut}
 use Rattle.fs_types.specs.PlainFile.{File, written, is_open_to_change}
 use Rattle.fs_script.specs.declared.line.OpLine.{OpLine}
 use Rattle.fs_script.specs.declared.line.Op.{Op}
@@ -18,14 +19,25 @@ abbrev pub with_lines : {X : Type 0} → Job → Cells X → List ℕ → File X
 with_lines s c q None = None
 with_lines s c q (Some f) = Some (record { cells = put_lines s c q f.cells; frozen = f.frozen })
 
+-- a file cut to n places, with blanks where it has fewer
+abbrev pub cut_to : {X : Type 0} → X → ℕ → File X → File X
+cut_to blank n None = None
+cut_to blank n (Some f) = Some (record { cells = cut blank f.cells n; frozen = f.frozen })
+
+-- what a client sees of a file: the file alone, or with its own pending lines put over it
+abbrev pub view_of : {X : Type 0} → Job → Cells X → Bool → List ℕ → File X → File X
+view_of s c own q f = if own then with_lines s c q f else f
+
 -- whether an operation may be committed over this file
 abbrev pub is_enabled : {X : Type 0} → Op → File X → Bool
 is_enabled ops.Create f = not (is_some f)
 is_enabled ops.Open f = false
 is_enabled (ops.Write off text) f = false
 is_enabled ops.Sync f = is_open_to_change f
-is_enabled (ops.Read off len) f = false
+is_enabled (ops.Read off len own) f = false
 is_enabled ops.Size f = false
+is_enabled (ops.Trunc n) f = is_open_to_change f
+is_enabled ops.Unlink f = is_some f
 
 -- what it makes of the file then, with these lines pending
 abbrev pub makes : {X : Type 0} → Job → Cells X → Op → List ℕ → File X → File X
@@ -33,8 +45,10 @@ makes s c ops.Create q f = Some (record { cells = []; frozen = false })
 makes s c ops.Open q f = f
 makes s c (ops.Write off text) q f = f
 makes s c ops.Sync q f = with_lines s c q f
-makes s c (ops.Read off len) q f = f
+makes s c (ops.Read off len own) q f = f
 makes s c ops.Size q f = f
+makes s c (ops.Trunc n) q f = cut_to c.blank n (with_lines s c q f)
+makes s c ops.Unlink q f = None
 
 -- an operation's effect on a file, with these lines pending; where it isn't enabled, the file stays
 abbrev pub effect_of : {X : Type 0} → Job → Cells X → Op → List ℕ → File X → File X

@@ -13,12 +13,12 @@ use Rattle.fs_types.specs.PlainFile.{File, is_open_to_change, is_frozen}
 use Rattle.fs_script.specs.declared.line.OpLine.{OpLine}
 use Rattle.fs_script.specs.declared.line.Op.{Op}
 use Rattle.fs_script.specs.Job.{Job, rank_at, phase}
-use Rattle.fs_script.specs.Payload.{Write, brought, parts_of}
+use Rattle.fs_script.specs.Payload.{Write, bytes_of, brought, parts_of}
 use Rattle.fs_script.specs.Accepted.{accepted_before}
 use Rattle.fs_script.specs.Operations.{Range, asked, asks_size, needs_open, needs_file, needs_no_file, needs_unfrozen, commits, finds_file}
 use Rattle.fs_script.specs.AnswerKinds.{version_of, is_badf}
 use Rattle.fs_script.specs.Pending.{Answering, pending}
-use Rattle.fs_script.specs.Effect.{state}
+use Rattle.fs_script.specs.Effect.{view_of, state}
 use Rattle.fs_script.specs.Front.{front, is_open}
 
 -- a line of a client's phase or an earlier one, and no later line of that client
@@ -55,14 +55,15 @@ abbrev pub AgreesWithOpen : Op → Bool → Answer → Type 0
 AgreesWithOpen op is_open a = MatchBool (needs_open op) (is_badf a ≡ not is_open) (Unit {0})
 
 -- what a line's answer is checked against: its number, its path's journal and file at each version, its front, and the
--- pending lines; the bytes of a slot, how many slots its client's log has, and how many pieces that client's earlier
--- accepted writes have
+-- pending lines, with what the client sees of a file, alone or with these put over it; the bytes of a slot, how many slots its
+-- client's log has, and how many pieces that client's earlier accepted writes have
 pub record LineView : Type 0 where
   pub number : ℕ
   pub journal : List ℕ
   pub file : ℕ → File ℕ
   pub front : ℕ
   pub pending : List ℕ
+  pub sees : Bool → File ℕ → File ℕ
   pub chunk : ℕ
   pub slots : ℕ
   pub accepted : ℕ
@@ -74,6 +75,7 @@ line_view s A J n o = record {
   file = state s A J;
   front = front s A J o.rank o.path n;
   pending = pending s A o.rank o.path n;
+  sees = λ own. view_of s (bytes_of s) own (pending s A o.rank o.path n);
   chunk = s.shape.chunk;
   slots = s.shape.shmem + s.shape.spill;
   accepted = accepted_before s A o.rank n;
@@ -111,11 +113,15 @@ abbrev pub LacksSpace : LineView → Option Write → ℕ → ℕ → Type 0
 LacksSpace w None need free = ⊥
 LacksSpace w (Some x) need free = NeedsMore w x need free
 
--- the range of a file is shown
-abbrev pub ShowsAsked : Type 0 → Option Range → File ℕ → ℕ → Body → Type 0
-ShowsAsked compared None f n body = ⊥
-ShowsAsked compared (Some x) None n body = ⊥
-ShowsAsked compared (Some x) (Some f) n body = Shows compared (shown f.cells x.off x.len) n body
+-- this range of a file is shown, where there is a file
+abbrev pub ShowsRange : Type 0 → Range → File ℕ → ℕ → Body → Type 0
+ShowsRange compared x None n body = ⊥
+ShowsRange compared x (Some f) n body = Shows compared (shown f.cells x.off x.len) n body
+
+-- the range that is asked for is shown of what the client sees of the file
+abbrev pub ShowsAsked : Type 0 → LineView → Option Range → File ℕ → ℕ → Body → Type 0
+ShowsAsked compared w None f n body = ⊥
+ShowsAsked compared w (Some x) f n body = ShowsRange compared x (w.sees x.own f) n body
 
 -- a file is there, has so many bytes, and is frozen or not
 abbrev pub IsSized : File ℕ → ℕ → Bool → Type 0
@@ -129,7 +135,7 @@ IsInTable compared w op (answers.Done v) =
 IsInTable compared w op (answers.Wrote slots) = Accepts w (brought op) slots
 IsInTable compared w op (answers.Staged v n slots) = ⊥
 IsInTable compared w op (answers.Sized v n frozen) = IsTrue (asks_size op) × IsSized (w.file v) n frozen
-IsInTable compared w op (answers.Shown v n body) = ShowsAsked compared (asked op) (w.file v) n body
+IsInTable compared w op (answers.Shown v n body) = ShowsAsked compared w (asked op) (w.file v) n body
 IsInTable compared w op answers.BadF = IsTrue (needs_open op)
 IsInTable compared w op (answers.Exists v) = IsTrue (needs_no_file op) × IsSome (w.file v)
 IsInTable compared w op (answers.NoEnt v) = IsTrue (needs_file op) × IsAtFront w (brought op) v × IsNone (w.file v)

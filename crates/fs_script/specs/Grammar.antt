@@ -1,7 +1,8 @@
 -- The grammar of scripts: which bytes spell a job, and the limits of a job.
-use Rattle.std.specs.Prelude.{◌≡◌, ℕ, ◌+◌, ◌*◌, ◌%◌, ◌^◌, ◌<◌, ◌≤◌, ◌==◌, Bool, true, IsTrue, List, [], ◌∷◌, ◌++◌, length, codes}
+use Rattle.std.specs.Prelude.{◌≡◌, ℕ, ◌+◌, ◌*◌, ◌%◌, ◌^◌, ◌<◌, ◌≤◌, ◌==◌, Bool, true, IsTrue, List, [], ◌∷◌, ◌++◌, length, codes, if◌then◌else◌}
 use Rattle.std.specs.List.{join_with_byte, AllByRecursion}
 use Rattle.std.specs.Fmt.{decimal}
+use Rattle.fs_types.specs.declared.limits.TheConstants.{LONGEST_FILE}
 use Rattle.fs_types.specs.PathText.{IsPath}
 use Rattle.fs_script.specs.TextBytes.{AreTextBytes}
 use Rattle.fs_script.specs.declared.limits.TheConstants.{SCRIPT_LIMIT, LINE_LIMIT, TRANSFER_LIMIT, SERVER_LIMIT, CLIENT_LIMIT, LEAST_CHUNK, MOST_CHUNK, CHUNK_UNIT, MEMORY_SLOTS, MEMORY_BYTES, SPILL_SLOTS, SPILL_BYTES}
@@ -60,14 +61,20 @@ abbrev pub data_text : Data → List ℕ
 data_text (Text bytes) = codes "t:" ++ bytes
 data_text (Pattern seed len) = codes "p:" ++ decimal seed ++ codes ":" ++ decimal len
 
+-- the name of a read of a file alone, and of one that shows the client's own pending writes over it
+abbrev pub read_word : Bool → List ℕ
+read_word own = if own then codes "readown" else codes "read"
+
 -- the words of an operation on a path, without its client
 abbrev pub op_words : Op → List ℕ → List (List ℕ)
 op_words ops.Create p = codes "create" ∷ p ∷ []
 op_words ops.Open p = codes "open" ∷ p ∷ []
 op_words (ops.Write off text) p = codes "write" ∷ p ∷ decimal off ∷ data_text text ∷ []
 op_words ops.Sync p = codes "sync" ∷ p ∷ []
-op_words (ops.Read off len) p = codes "read" ∷ p ∷ decimal off ∷ decimal len ∷ []
+op_words (ops.Read off len own) p = read_word own ∷ p ∷ decimal off ∷ decimal len ∷ []
 op_words ops.Size p = codes "size" ∷ p ∷ []
+op_words (ops.Trunc n) p = codes "trunc" ∷ p ∷ decimal n ∷ []
+op_words ops.Unlink p = codes "unlink" ∷ p ∷ []
 
 -- the text of an operation: its client and its other words
 abbrev pub op_text : OpLine → List ℕ
@@ -84,8 +91,10 @@ IsOp ops.Create = Unit {0}
 IsOp ops.Open = Unit {0}
 IsOp (ops.Write off text) = (off < 2 ^ 64) × IsData text
 IsOp ops.Sync = Unit {0}
-IsOp (ops.Read off len) = (off < 2 ^ 64) × (len ≤ TRANSFER_LIMIT)
+IsOp (ops.Read off len own) = (off < 2 ^ 64) × (len ≤ TRANSFER_LIMIT)
 IsOp ops.Size = Unit {0}
+IsOp (ops.Trunc n) = n ≤ LONGEST_FILE
+IsOp ops.Unlink = Unit {0}
 
 -- an operation that a client of the job may do
 pub record IsOpLine (h : Shape) (o : OpLine) : Type 0 where

@@ -34,8 +34,10 @@ brought ops.Create = None
 brought ops.Open = None
 brought (ops.Write off text) = Some (write_of off text)
 brought ops.Sync = None
-brought (ops.Read off len) = None
+brought (ops.Read off len own) = None
 brought ops.Size = None
+brought (ops.Trunc n) = None
+brought ops.Unlink = None
 
 abbrev pub brought_in : Option OpLine → Option Write
 brought_in None = None

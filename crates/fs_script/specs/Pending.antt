@@ -22,8 +22,10 @@ after_answer ops.Create a n q = q
 after_answer ops.Open a n q = q
 after_answer (ops.Write off text) a n q = if is_accepted a then with_write n (write_of off text).bytes q else q
 after_answer ops.Sync a n q = if empties a then [] else q
-after_answer (ops.Read off len) a n q = q
+after_answer (ops.Read off len own) a n q = q
 after_answer ops.Size a n q = q
+after_answer (ops.Trunc size) a n q = if empties a then [] else q
+after_answer ops.Unlink a n q = if empties a then [] else q
 
 -- what one line more makes of x, where step says what its operation's answer makes of it
 abbrev pub one_more : {X : Type 0} → (Op → Answer → ℕ → X → X) → Option Op → Option Answer → ℕ → X → X

@@ -1,6 +1,6 @@
 -- The words of scripts, answers and journals, passed on from one place to proofs and to the crates above. Declares nothing.
 pub use Rattle.fs_types.specs.AnswerList.{answer_at, put_answer, IsRisingFrom, Given, IsRising}
-pub use Rattle.fs_types.specs.Overwrite.{shown, put}
+pub use Rattle.fs_types.specs.Overwrite.{shown, put, cut}
 pub use Rattle.fs_types.specs.PathLaws.{IsVisible}
 pub use Rattle.fs_types.specs.PathText.{IsPath}
 pub use Rattle.fs_types.specs.PlainFile.{File, written, is_open_to_change, is_frozen}
@@ -13,8 +13,9 @@ pub use Rattle.fs_types.specs.declared.slot_line.SlotLine.{SlotLine}
 pub use Rattle.fs_types.specs.declared.limits.TheConstants.{LONGEST_FILE}
 pub use Rattle.fs_script.specs.AnswerKinds.{version_of, done_at}
 pub use Rattle.fs_script.specs.Effect.{state, put_lines, effect, after_all, state_in, is_enabled, effect_in, makes, effect_of}
+pub use Rattle.fs_script.specs.Effect.{with_lines, cut_to, view_of}
 pub use Rattle.fs_script.specs.Fits.{Fits, AreTold, LineView, line_view, Accepts, ShowsAsked, body_of, IsInTable, IsNoLater, IsInReach}
-pub use Rattle.fs_script.specs.Fits.{entry, AgreesWithOpen, MayWrite, IsAtFront, EndsPast, NeedsMore, LacksSpace}
+pub use Rattle.fs_script.specs.Fits.{ShowsRange, entry, AgreesWithOpen, MayWrite, IsAtFront, EndsPast, NeedsMore, LacksSpace}
 pub use Rattle.fs_script.specs.Front.{front, at_least, seen, is_open, of_earlier_phases, opens}
 pub use Rattle.fs_script.specs.Growth.{SamePending, AddsAnswer, IsOfNoEarlierPhase, AllFit, AgreeBefore, ComesNext}
 pub use Rattle.fs_script.specs.Job.{Job, rank_at, phase, op_at, op_lines, line_at, rank_in, Names, own_op, operation, own_at, program}

@@ -30,7 +30,8 @@ pub enum ScriptFault {
     /// The first line is no header of a job.
     #[error("the first line is no header of a job")]
     BadHeader,
-    /// A number of the first line, or what a later line moves, is outside its limits.
+    /// A number of the first line, what a later line moves, or the length that it cuts a file to,
+    /// is outside its limits.
     #[error("line {number} is over a limit", number = .line.0)]
     OverLimit { line: LineNo },
     /// A line after the header is none of a script.

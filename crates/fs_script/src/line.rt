@@ -37,10 +37,16 @@ pub enum Op {
     Write { off: u64, text: Data },
     /// Commits the client's pending writes at the file's owner.
     Sync,
-    /// Reads at most `len` bytes from `off` on.
-    Read { off: u64, len: u64 },
+    /// Reads at most `len` bytes from `off` on; where it is `own`, of the file with the client's
+    /// pending writes put over it.
+    Read { off: u64, len: u64, own: bool },
     /// Asks how long the file is, and whether it is frozen.
     Size,
+    /// Commits the client's pending writes, and then cuts the file to `n` bytes or fills it up with
+    /// zeros.
+    Trunc { n: u64 },
+    /// Takes the file away, and drops the client's pending writes.
+    Unlink,
 }
 
 /// The bytes that a write brings.

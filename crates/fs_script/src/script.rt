@@ -116,7 +116,13 @@ impl Script {
         };
         match &o.op {
             Op::Write { text, .. } => text,
-            Op::Create | Op::Open | Op::Sync | Op::Read { .. } | Op::Size => unreachable!(),
+            Op::Create
+            | Op::Open
+            | Op::Sync
+            | Op::Read { .. }
+            | Op::Size
+            | Op::Trunc { .. }
+            | Op::Unlink => unreachable!(),
         }
     }
 

@@ -47,7 +47,11 @@ fn five_lines_come_back(rt: HostRuntime) -> Result<(), Fail> {
             matches!(
                 script.line(LineNo(5)),
                 Some(Line::Op(OpLine {
-                    op: Op::Read { off: 1, len: 3 },
+                    op: Op::Read {
+                        off: 1,
+                        len: 3,
+                        own: false
+                    },
                     ..
                 }))
             )
@@ -172,5 +176,74 @@ fn patterns_are_computed(rt: HostRuntime) -> Result<(), Fail> {
     }
     assert_eq!(rt; first, [255, 30, 61]);
     assert_eq!(rt; middle, [225, 1]);
+    Ok(())
+}
+
+const CUT_AND_UNLINKED: &[u8] = b"unifyfs 1 servers=1 clients=1 chunk=64 shmem=4 spill=0
+0 readown /unifyfs/a 7 16777216
+0 trunc /unifyfs/a 1099511627776
+0 unlink /unifyfs/a
+";
+
+#[test]
+fn own_reads_cuts_and_unlinks_are_read(rt: HostRuntime) -> Result<(), Fail> {
+    let script = read_script(rt.alloc(), CUT_AND_UNLINKED)
+        .ok()
+        .ok_or("the bytes are a script")?;
+    assert!(rt;
+        matches!(
+            script.line(LineNo(2)),
+            Some(Line::Op(OpLine {
+                op: Op::Read {
+                    off: 7,
+                    len: 16_777_216,
+                    own: true
+                },
+                ..
+            }))
+        )
+    );
+    assert!(rt;
+        matches!(
+            script.line(LineNo(3)),
+            Some(Line::Op(OpLine {
+                op: Op::Trunc {
+                    n: 1_099_511_627_776
+                },
+                ..
+            }))
+        )
+    );
+    assert!(rt;
+        matches!(
+            script.line(LineNo(4)),
+            Some(Line::Op(OpLine { op: Op::Unlink, .. }))
+        )
+    );
+    Ok(())
+}
+
+#[test]
+fn the_first_fault_of_a_cut_or_an_unlink_is_named(rt: HostRuntime) -> Result<(), Fail> {
+    let alloc = rt.alloc();
+    let line = LineNo(2);
+    let bad = |reason| Some(ScriptFault::BadLine { line, reason });
+    for (words, fault) in [
+        ("0 readown /unifyfs/a 7", bad(Reason::Words)),
+        (
+            "0 trunc /unifyfs/a 1099511627777",
+            Some(ScriptFault::OverLimit { line }),
+        ),
+        ("0 trunc /unifyfs/a x", bad(Reason::Number)),
+        ("0 trunc a x", bad(Reason::Path)),
+        ("0 trunc /unifyfs/a", bad(Reason::Words)),
+        ("1 trunc /unifyfs/a", bad(Reason::Rank)),
+        ("0 unlink /unifyfs/a x", bad(Reason::Words)),
+    ] {
+        let text = format!(in alloc;
+            "unifyfs 1 servers=1 clients=1 chunk=64 shmem=4 spill=0\n{words}"
+        )?;
+        assert_eq!(rt; read_script(alloc, text.as_bytes()).err(), fault);
+    }
     Ok(())
 }

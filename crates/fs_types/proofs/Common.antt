@@ -28,7 +28,7 @@ pub use Rattle.std.proofs.lemmas.List.{length-append, length-take, length-take-l
 pub use Rattle.std.proofs.lemmas.List.{get_or-append_right, get_or-take, get_or-drop, append_cancel_left, length-map, length_push}
 pub use Rattle.std.proofs.lemmas.List.{get_or-map, take-append-le, take_min, get_or-replicate, get_or-set_same, get_or-set_other}
 pub use Rattle.std.proofs.lemmas.List.{length-set, map-append, map-set, set-get_or, append-nil, places, map_push, with_items_is, take_more}
-pub use Rattle.std.proofs.lemmas.List.{nil_from_length}
+pub use Rattle.std.proofs.lemmas.List.{nil_from_length, get_or_past}
 pub use Rattle.std.proofs.lemmas.List.Edits.{map_over_more}
 pub use Rattle.std.proofs.lemmas.List.Elements.{All-append, All-take, All-drop, All-replicate, All-nil, All-cons, All-weaker, All-head}
 pub use Rattle.std.proofs.lemmas.List.Elements.{All-tail, All-from_recursion, recursion_from_All, All-push, All-filter, filter_passes}

@@ -2,7 +2,7 @@
 use Rattle.fs_types.proofs.Common.{◌≡◌, ℕ, zero, suc, ◌+◌, ◌-◌, ◌<◌, ◌≤◌, max, min, cond, ltb, leb, List, [], ◌∷◌, ◌++◌, length, take, drop}
 use Rattle.fs_types.proofs.Common.{replicate, get_or, refl, ap, ◌∙◌, arith, inl, inr, All, ◌&&◌, cases_lt, nat_tests, length-append}
 use Rattle.fs_types.proofs.Common.{length-take, length-take-le, length-drop, length-replicate, get_or_append_left, get_or-append_right}
-use Rattle.fs_types.proofs.Common.{get_or-take, get_or-drop, All-append, All-take, All-drop, All-replicate}
+use Rattle.fs_types.proofs.Common.{get_or-take, get_or-drop, get_or_past, All-append, All-take, All-drop, All-replicate}
 use Rattle.fs_types.specs.Overwrite.{extended, put, cut, shown}
 
 -- a place of blanks is a blank, also past their end
@@ -82,14 +82,18 @@ get_or-put blank xs off ys k =
       ]
     ]
 
+-- what holds of the blank, and at each place of a list, holds at each place after a cut
+pub All-cut : {X : Type 0} (P : X → Type 0) (blank : X) (xs : List X) (n : ℕ) → P blank → All P xs → All P (cut blank xs n)
+All-cut P blank xs n of_blank of_xs =
+    All-take P n (extended blank xs n)
+    (All-append P xs (replicate (n - length xs) blank) of_xs (All-replicate P (n - length xs) blank of_blank))
+
 -- what holds of the blank, and at each place of two lists, holds at each place after a put
 pub All-put : {X : Type 0} (P : X → Type 0) (blank : X) (xs : List X) (off : ℕ) (ys : List X)
     → P blank → All P xs → All P ys → All P (put blank xs off ys)
 All-put P blank xs off [] of_blank of_xs of_ys = of_xs
 All-put P blank xs off (y ∷ ys) of_blank of_xs of_ys =
-    let blanks = replicate (off - length xs) blank in
-    let longer = All-append P xs blanks of_xs (All-replicate P (off - length xs) blank of_blank) in
-    let front = All-take P off (extended blank xs off) longer in
+    let front = All-cut P blank xs off of_blank of_xs in
     let rest = All-drop P (off + length (y ∷ ys)) xs of_xs in
     All-append P (take off (extended blank xs off) ++ (y ∷ ys)) (drop (off + length (y ∷ ys)) xs)
     (All-append P (take off (extended blank xs off)) (y ∷ ys) front of_ys) rest
@@ -106,6 +110,15 @@ length-cut blank xs n = length-front blank xs n
 -- what stands at place k after a cut
 pub get_or-cut : {X : Type 0} (blank : X) (xs : List X) (n k : ℕ) → k < n → get_or (cut blank xs n) k blank ≡ get_or xs k blank
 get_or-cut blank xs n k lt = get_or-take n (extended blank xs n) k blank lt ∙ get_or-extended blank xs n k
+
+-- and at any place, also past the end of the cut
+pub get_or-cut_anywhere : {X : Type 0} (blank : X) (xs : List X) (n k : ℕ)
+    → get_or (cut blank xs n) k blank ≡ cond (ltb k n) (get_or xs k blank) blank
+get_or-cut_anywhere blank xs n k =
+    elim (cases_lt k n) [
+      | inl lt ↦ get_or-cut blank xs n k lt ∙ grind (arith, nat_tests)
+      | inr past ↦ get_or_past (cut blank xs n) k blank (omega (arith, length-cut blank xs n)) ∙ grind (arith, nat_tests)
+    ]
 
 pub length-shown : {X : Type 0} (xs : List X) (off len : ℕ) → length (shown xs off len) ≡ min len (length xs - off)
 length-shown xs off len = length-take len (drop off xs) ∙ ap (min len) (length-drop off xs)

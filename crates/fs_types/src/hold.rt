@@ -32,6 +32,12 @@ pub trait Hold: Sized {
     /// How much can be given to pins of it; `None` is a room without end.
     ghost room: { Self → Option ℕ };
 
+    /// What the places are that pieces lie in.
+    ghost Place: { Type 0 };
+
+    /// The place that its piece lies in. Its pins are of the same.
+    ghost place: { Self → Place };
+
     /// The piece that it holds.
     fn piece(&self) -> PieceId
         requires { IsTrue (is_ready self.now) }
@@ -50,10 +56,12 @@ pub trait Hold: Sized {
         ensures pin_ready { IfOk result (λ pin. IsTrue (is_ready pin)) }
         ensures pin_piece { IfOk result (λ pin. piece pin ≡ piece self.old) }
         ensures pin_bytes { IfOk result (λ pin. bytes pin ≡ bytes self.old) }
+        ensures pin_place { IfOk result (λ pin. place pin ≡ place self.old) }
         ensures pin_room { IfOk result (λ pin. IsAtLeast asked (room pin)) }
         ensures lowered { OnOk result (room self.new ≡ lowered asked (room self.old)) }
         ensures same_room { OnErr result (room self.new ≡ room self.old) }
         ensures ready { IsTrue (is_ready self.new) }
         ensures same_piece { piece self.new ≡ piece self.old }
-        ensures same_bytes { bytes self.new ≡ bytes self.old };
+        ensures same_bytes { bytes self.new ≡ bytes self.old }
+        ensures same_place { place self.new ≡ place self.old };
 }

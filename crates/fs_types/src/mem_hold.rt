@@ -31,6 +31,10 @@ impl Hold for MemHold {
 
     ghost room = { λ h. h.room };
 
+    ghost Place = { Unit {0} };
+
+    ghost place = { λ _. tt };
+
     fn piece(&self) -> PieceId {
         self.piece
     }

@@ -1,5 +1,5 @@
 -- A line is read exactly where it is the text of a line that a job may have.
-use Rattle.std.proofs.Common.{◌≡◌, ℕ, ◌^◌, ◌<◌, ◌≤◌, ◌==◌, true, false, nat_lt, nat_le, List, [], ◌∷◌, ◌++◌, length, drop, Some, Ok, refl, sym, ap, subst, ◌∙◌, append_assoc, arith}
+use Rattle.std.proofs.Common.{◌≡◌, ℕ, ◌^◌, ◌<◌, ◌≤◌, ◌==◌, Bool, true, false, nat_lt, nat_le, List, [], ◌∷◌, ◌++◌, length, drop, Some, Ok, refl, sym, ap, subst, ◌∙◌, append_assoc, arith}
 use Rattle.std.specs.Prelude.{nat_eq, codes}
 use Rattle.std.specs.List.{join_with_byte, AllByRecursion, starts_with}
 use Rattle.std.specs.Str.{bytes_eq, all_ascii_digits}
@@ -9,6 +9,7 @@ use Rattle.std.proofs.lemmas.Bool.Decides.{nat_tests, Decides-eqb}
 use Rattle.std.proofs.lemmas.Fmt.{digits_decimal, decimal_nonempty}
 use Rattle.std.proofs.lemmas.Slice.Eq.{bytes_eq-Decides, starts_is}
 use Rattle.fs_types.specs.PathText.{IsPath, is_path}
+use Rattle.fs_types.specs.declared.limits.TheConstants.{LONGEST_FILE}
 use Rattle.fs_script.specs.declared.limits.TheConstants.{TRANSFER_LIMIT}
 use Rattle.fs_script.specs.declared.fault.Reason.TheVariants as reasons
 use Rattle.fs_script.specs.declared.read.line_fault.LineFault.TheVariants.{Bad, OverLimit}
@@ -22,13 +23,13 @@ use Rattle.fs_script.specs.declared.line.Op.{Op}
 use Rattle.fs_script.specs.declared.line.Op.TheVariants as ops
 use Rattle.fs_script.specs.declared.line.Data.{Data}
 use Rattle.fs_script.specs.declared.line.Data.TheVariants.{Text, Pattern}
-use Rattle.fs_script.specs.Grammar.{data_text, op_words, op_text, IsData, IsOp, IsOpLine, IsLine, IsTextOf, is_note}
+use Rattle.fs_script.specs.Grammar.{data_text, read_word, op_words, op_text, IsData, IsOp, IsOpLine, IsLine, IsTextOf, is_note}
 use Rattle.fs_script.specs.Reading.Steps.{◌>>=◌}
 use Rattle.fs_script.specs.Reading.Tokens.{tokens, words_of, one_token, two_tokens, three_tokens}
 use Rattle.fs_script.specs.Reading.Numbers.{number_of}
-use Rattle.fs_script.specs.Reading.Words.{or_bad, rank_of, path_of, span_of, text_of, pattern_of, data_of}
-use Rattle.fs_script.specs.Reading.Lines.{kind_of, path_alone, op_of_kind, op_of_words, op_line_of, line_of}
-use Rattle.fs_script.proofs.Number.{own}
+use Rattle.fs_script.specs.Reading.Words.{or_bad, rank_of, path_of, number_up_to, text_of, pattern_of, data_of}
+use Rattle.fs_script.specs.Reading.Lines.{kind_of, path_alone, read_of, op_of_kind, op_of_words, op_line_of, line_of}
+use Rattle.fs_script.proofs.Number.{own as numerals}
 use Rattle.fs_script.proofs.Reading.Steps.{bind_ok, guard, test, some_is, ok_is, choice}
 use Rattle.fs_script.proofs.Reading.Numbers.{IsNumber, number_is_text, text_is_number}
 use Rattle.fs_script.proofs.Reading.Words.{IsWord, is_word-append, is_word-decimal, is_word-text, is_word-path, one_is, two_are, three_are, tokens_joined, tokens_again}
@@ -50,11 +51,11 @@ path_is w p e =
     let t = test (is_path w) w (Bad reasons.Path) p e in
     subst (λ k. IsPath k × (w ≡ k)) t.1 (t.0, refl)
 
-span_is : (w : List ℕ) (n : ℕ) → span_of w ≡ Ok n → (n ≤ TRANSFER_LIMIT) × (w ≡ decimal n)
-span_is w n e =
+number_up_to_is : (most : ℕ) (w : List ℕ) (n : ℕ) → number_up_to most w ≡ Ok n → (n ≤ most) × (w ≡ decimal n)
+number_up_to_is most w n e =
     let b = bind_ok _ _ n e in
-    let t = test (nat_le b.0 TRANSFER_LIMIT) b.0 OverLimit n b.2 in
-    subst (λ k. (k ≤ TRANSFER_LIMIT) × (w ≡ decimal k)) t.1 (leb-true b.0 TRANSFER_LIMIT t.0, (number_is w b.0 reasons.Number b.1).text)
+    let t = test (nat_le b.0 most) b.0 OverLimit n b.2 in
+    subst (λ k. (k ≤ most) × (w ≡ decimal k)) t.1 (leb-true b.0 most t.0, (number_is w b.0 reasons.Number b.1).text)
 
 text_is : (w : List ℕ) (d : Data) → text_of w ≡ Ok d → IsData d × (codes "t:" ++ w ≡ data_text d)
 text_is w d e =
@@ -95,7 +96,10 @@ name_of kinds.Open = codes "open"
 name_of kinds.Write = codes "write"
 name_of kinds.Sync = codes "sync"
 name_of kinds.Read = codes "read"
+name_of kinds.ReadOwn = codes "readown"
 name_of kinds.Size = codes "size"
+name_of kinds.Trunc = codes "trunc"
+name_of kinds.Unlink = codes "unlink"
 
 kind_is : (w : List ℕ) (k : OpKind) → kind_of w ≡ Some k → w ≡ name_of k
 kind_is w k e =
@@ -104,7 +108,10 @@ kind_is w k e =
     (λ e2. choice P (bytes_eq w (codes "write")) _ _ (Some k) e2 (at kinds.Write)
     (λ e3. choice P (bytes_eq w (codes "sync")) _ _ (Some k) e3 (at kinds.Sync)
     (λ e4. choice P (bytes_eq w (codes "read")) _ _ (Some k) e4 (at kinds.Read)
-    (λ e5. choice P (bytes_eq w (codes "size")) _ _ (Some k) e5 (at kinds.Size) (λ none. absurd cc))))))
+    (λ e5. choice P (bytes_eq w (codes "readown")) _ _ (Some k) e5 (at kinds.ReadOwn)
+    (λ e6. choice P (bytes_eq w (codes "size")) _ _ (Some k) e6 (at kinds.Size)
+    (λ e7. choice P (bytes_eq w (codes "trunc")) _ _ (Some k) e7 (at kinds.Trunc)
+    (λ e8. choice P (bytes_eq w (codes "unlink")) _ _ (Some k) e8 (at kinds.Unlink) (λ none. absurd cc)))))))))
   where
     P : Type 0
     P = w ≡ name_of k
@@ -130,6 +137,18 @@ alone_op_is o name ws x is words e =
     let path = alone_is ws b.0 b.1 in
     subst (SaysOp (name ∷ ws)) (ok_is (b.0, o) x b.2) (path.0, is, ap (λ l. name ∷ l) path.1 ∙ sym (words b.0))
 
+read_is : (own : Bool) (ws : List (List ℕ)) (x : List ℕ × Op) → read_of own ws ≡ Ok x → SaysOp (read_word own ∷ ws) x
+read_is own ws x e =
+    let a = bind_ok _ _ x e in
+    let b = bind_ok _ _ x a.2 in
+    let c = bind_ok _ _ x b.2 in
+    let d = bind_ok _ _ x c.2 in
+    let three = three_are ws a.0 (some_is (three_tokens ws) (Bad reasons.Words) a.0 a.1) in
+    let path = path_is a.0.0 b.0 b.1 in
+    let off = number_is a.0.1 c.0 reasons.Number c.1 in
+    let len = number_up_to_is TRANSFER_LIMIT a.0.2 d.0 d.1 in
+    subst (SaysOp (read_word own ∷ ws)) (ok_is (b.0, ops.Read c.0 d.0 own) x d.2) (path.0, (off.below, len.0), cc)
+
 op_of_kind_is : (k : OpKind) (ws : List (List ℕ)) (x : List ℕ × Op) → op_of_kind k ws ≡ Ok x → SaysOp (name_of k ∷ ws) x
 op_of_kind_is kinds.Create ws x e = alone_op_is ops.Create (codes "create") ws x tt (λ p. refl) e
 op_of_kind_is kinds.Open ws x e = alone_op_is ops.Open (codes "open") ws x tt (λ p. refl) e
@@ -146,17 +165,17 @@ op_of_kind_is kinds.Write ws x e =
     subst (SaysOp (codes "write" ∷ ws)) (ok_is (b.0, ops.Write c.0 d.0) x d.2)
     (path.0, (off.below, text.0), cc)
 op_of_kind_is kinds.Sync ws x e = alone_op_is ops.Sync (codes "sync") ws x tt (λ p. refl) e
-op_of_kind_is kinds.Read ws x e =
+op_of_kind_is kinds.Read ws x e = read_is false ws x e
+op_of_kind_is kinds.ReadOwn ws x e = read_is true ws x e
+op_of_kind_is kinds.Trunc ws x e =
     let a = bind_ok _ _ x e in
     let b = bind_ok _ _ x a.2 in
     let c = bind_ok _ _ x b.2 in
-    let d = bind_ok _ _ x c.2 in
-    let three = three_are ws a.0 (some_is (three_tokens ws) (Bad reasons.Words) a.0 a.1) in
+    let two = two_are ws a.0 (some_is (two_tokens ws) (Bad reasons.Words) a.0 a.1) in
     let path = path_is a.0.0 b.0 b.1 in
-    let off = number_is a.0.1 c.0 reasons.Number c.1 in
-    let len = span_is a.0.2 d.0 d.1 in
-    subst (SaysOp (codes "read" ∷ ws)) (ok_is (b.0, ops.Read c.0 d.0) x d.2)
-    (path.0, (off.below, len.0), cc)
+    let size = number_up_to_is LONGEST_FILE a.0.1 c.0 c.1 in
+    subst (SaysOp (codes "trunc" ∷ ws)) (ok_is (b.0, ops.Trunc c.0) x c.2) (path.0, size.0, cc)
+op_of_kind_is kinds.Unlink ws x e = alone_op_is ops.Unlink (codes "unlink") ws x tt (λ p. refl) e
 
 op_is : (ws : List (List ℕ)) (x : List ℕ × Op) → op_of_words ws ≡ Ok x → SaysOp ws x
 op_is [] x e = absurd cc
@@ -201,15 +220,24 @@ data_again (Pattern seed len) h =
     ap data_of (pattern_text seed len) ∙ ap pattern_of two
     ∙ rw (text_is_number seed h.0, text_is_number len lt, le-leb len TRANSFER_LIMIT h.1) refl
 
+read_again : (own : Bool) (off len : ℕ) (p : List ℕ) → IsPath p → IsOp (ops.Read off len own)
+    → read_of own (p ∷ decimal off ∷ decimal len ∷ []) ≡ Ok (p, ops.Read off len own)
+read_again own off len p path i =
+    let lt : len < 2 ^ 64 = omega (arith, i.1) in
+    rw (path, text_is_number off i.0, text_is_number len lt, le-leb len TRANSFER_LIMIT i.1) refl
+
 op_again : (o : Op) (p : List ℕ) → IsPath p → IsOp o → op_of_words (op_words o p) ≡ Ok (p, o)
 op_again ops.Create p path i = rw path refl
 op_again ops.Open p path i = rw path refl
 op_again ops.Size p path i = rw path refl
 op_again (ops.Write off text) p path i = rw (path, text_is_number off i.0, data_again text i.1) refl
 op_again ops.Sync p path i = rw path refl
-op_again (ops.Read off len) p path i =
-    let lt : len < 2 ^ 64 = omega (arith, i.1) in
-    rw (path, text_is_number off i.0, text_is_number len lt, le-leb len TRANSFER_LIMIT i.1) refl
+op_again (ops.Read off len false) p path i = read_again false off len p path i
+op_again (ops.Read off len true) p path i = read_again true off len p path i
+op_again (ops.Trunc n) p path i =
+    let lt : n < 2 ^ 64 = omega (arith, i) in
+    rw (path, text_is_number n lt, le-leb n LONGEST_FILE i) refl
+op_again ops.Unlink p path i = rw path refl
 
 data_is_word : (d : Data) → IsData d → IsWord 32 (data_text d)
 data_is_word (Text bytes) h = is_word-append 32 (codes "t:") bytes refl (is_word-text bytes h.0)
@@ -219,14 +247,20 @@ data_is_word (Pattern seed len) h =
     (is_word-append 32 (decimal seed) (58 ∷ decimal len) (is_word-decimal 32 seed refl h.0)
     (is_word-append 32 (58 ∷ []) (decimal len) refl (is_word-decimal 32 len refl (omega (arith, h.1))))))
 
+is_word-read_word : (own : Bool) → IsWord 32 (read_word own)
+is_word-read_word false = refl
+is_word-read_word true = refl
+
 words_fit : (o : Op) (p : List ℕ) → IsOp o → IsWord 32 p → AllByRecursion (IsWord 32) (op_words o p)
 words_fit ops.Create p i w = (refl, (w, tt))
 words_fit ops.Open p i w = (refl, (w, tt))
 words_fit ops.Size p i w = (refl, (w, tt))
 words_fit (ops.Write off text) p i w = (refl, (w, (is_word-decimal 32 off refl i.0, (data_is_word text i.1, tt))))
 words_fit ops.Sync p i w = (refl, (w, tt))
-words_fit (ops.Read off len) p i w =
-    (refl, (w, (is_word-decimal 32 off refl i.0, (is_word-decimal 32 len refl (omega (arith, i.1)), tt))))
+words_fit (ops.Read off len own) p i w =
+    (is_word-read_word own, (w, (is_word-decimal 32 off refl i.0, (is_word-decimal 32 len refl (omega (arith, i.1)), tt))))
+words_fit (ops.Trunc n) p i w = (refl, (w, (is_word-decimal 32 n refl (omega (arith, i)), tt)))
+words_fit ops.Unlink p i w = (refl, (w, tt))
 
 -- a text that begins with a digit is no note and no barrier
 digit_first : (h : Shape) (w rest : List ℕ) → all_ascii_digits w ≡ true → 0 < length w
@@ -243,7 +277,10 @@ rank_first r ops.Open p = refl
 rank_first r ops.Size p = refl
 rank_first r (ops.Write off text) p = refl
 rank_first r ops.Sync p = refl
-rank_first r (ops.Read off len) p = refl
+rank_first r (ops.Read off len false) p = refl
+rank_first r (ops.Read off len true) p = refl
+rank_first r (ops.Trunc n) p = refl
+rank_first r ops.Unlink p = refl
 
 op_line_again : (h : Shape) (o : OpLine) → h.clients < 2 ^ 64 → IsOpLine h o → line_of h (op_text o) ≡ Ok (lines.Op o)
 op_line_again h o few i =
@@ -253,7 +290,7 @@ op_line_again h o few i =
     (words_fit o.op o.path i.op (is_word-path o.path i.path)) in
     let first = rank_first (decimal o.rank) o.op o.path in
     let begins = digit_first h (decimal o.rank) (32 ∷ join_with_byte 32 (op_words o.op o.path))
-    (digits_decimal own o.rank lt) (decimal_nonempty o.rank lt) in
+    (digits_decimal numerals o.rank lt) (decimal_nonempty o.rank lt) in
     let op : line_of h (op_text o) ≡ op_line_of h (words_of (op_text o)) = rw (first) begins in
     op ∙ ap (op_line_of h) words
     ∙ rw (text_is_number o.rank lt, lt-ltb o.rank h.clients i.rank, op_again o.op o.path i.path i.op) refl

@@ -59,7 +59,10 @@ module _ (n : ℕ) where
   op kinds.Write words = search (steps, payload)
   op kinds.Sync words = search steps
   op kinds.Read words = search steps depth 12
+  op kinds.ReadOwn words = search steps depth 12
   op kinds.Size words = search steps
+  op kinds.Trunc words = search steps depth 12
+  op kinds.Unlink words = search steps
 
   op_words : (words : List (List ℕ)) → Faults OfLine (op_of_words words)
   op_words [] = search steps

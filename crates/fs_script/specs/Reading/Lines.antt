@@ -1,7 +1,7 @@
 -- Reading a line. Its words are tried from the left, and the first bad one says what is wrong with the line: the client, the operation,
 -- which a line of one word lacks, then how many words there are, and then each of the others. Only a last word has a limit, which is
 -- tried once that word is well formed, and so after all words.
-use Rattle.std.specs.Prelude.{ℕ, List, [], ◌∷◌, codes, Option, Some, None, Result, Ok, Err, if◌then◌else◌}
+use Rattle.std.specs.Prelude.{ℕ, Bool, true, false, List, [], ◌∷◌, codes, Option, Some, None, Result, Ok, Err, if◌then◌else◌}
 use Rattle.std.specs.Str.{bytes_eq}
 use Rattle.fs_script.specs.declared.shape.Shape.{Shape}
 use Rattle.fs_script.specs.declared.line.Line.{Line}
@@ -15,8 +15,8 @@ use Rattle.fs_script.specs.declared.read.op_kind.OpKind.{OpKind}
 use Rattle.fs_script.specs.declared.read.op_kind.OpKind.TheVariants as kinds
 use Rattle.fs_script.specs.Grammar.{is_note}
 use Rattle.fs_script.specs.Reading.Steps.{◌>>=◌}
-use Rattle.fs_script.specs.Reading.Tokens.{words_of, one_token, three_tokens}
-use Rattle.fs_script.specs.Reading.Words.{or_bad, rank_of, path_of, place_of, span_of, data_of}
+use Rattle.fs_script.specs.Reading.Tokens.{words_of, one_token, two_tokens, three_tokens}
+use Rattle.fs_script.specs.Reading.Words.{or_bad, rank_of, path_of, place_of, span_of, length_of, data_of}
 
 -- the operation of this name
 abbrev pub kind_of : List ℕ → Option OpKind
@@ -26,7 +26,10 @@ kind_of word =
     else if bytes_eq word (codes "write") then Some kinds.Write
     else if bytes_eq word (codes "sync") then Some kinds.Sync
     else if bytes_eq word (codes "read") then Some kinds.Read
+    else if bytes_eq word (codes "readown") then Some kinds.ReadOwn
     else if bytes_eq word (codes "size") then Some kinds.Size
+    else if bytes_eq word (codes "trunc") then Some kinds.Trunc
+    else if bytes_eq word (codes "unlink") then Some kinds.Unlink
     else None
 
 -- the path of an operation that has no other word
@@ -34,6 +37,15 @@ abbrev pub path_alone : List (List ℕ) → Result (List ℕ) LineFault
 path_alone words = do
   word ← or_bad reasons.Words (one_token words)
   path_of word
+
+-- a read and its path
+abbrev pub read_of : Bool → List (List ℕ) → Result (List ℕ × Op) LineFault
+read_of own words = do
+  three ← or_bad reasons.Words (three_tokens words)
+  path ← path_of three.0
+  off ← place_of three.1
+  len ← span_of three.2
+  Ok (path, ops.Read off len own)
 
 -- an operation of this kind and its path, from the words after its name
 abbrev pub op_of_kind : OpKind → List (List ℕ) → Result (List ℕ × Op) LineFault
@@ -52,15 +64,19 @@ op_of_kind kinds.Write words = do
 op_of_kind kinds.Sync words = do
   path ← path_alone words
   Ok (path, ops.Sync)
-op_of_kind kinds.Read words = do
-  three ← or_bad reasons.Words (three_tokens words)
-  path ← path_of three.0
-  off ← place_of three.1
-  len ← span_of three.2
-  Ok (path, ops.Read off len)
+op_of_kind kinds.Read words = read_of false words
+op_of_kind kinds.ReadOwn words = read_of true words
 op_of_kind kinds.Size words = do
   path ← path_alone words
   Ok (path, ops.Size)
+op_of_kind kinds.Trunc words = do
+  two ← or_bad reasons.Words (two_tokens words)
+  path ← path_of two.0
+  n ← length_of two.1
+  Ok (path, ops.Trunc n)
+op_of_kind kinds.Unlink words = do
+  path ← path_alone words
+  Ok (path, ops.Unlink)
 
 -- an operation and its path, from the words after the client
 abbrev pub op_of_words : List (List ℕ) → Result (List ℕ × Op) LineFault

@@ -1,6 +1,7 @@
 -- Reading the words of an operation, one by one. Each gives a value, or says what is wrong with its line.
 use Rattle.std.specs.Prelude.{ℕ, nat_lt, nat_le, nat_eq, List, length, drop, codes, Option, Result, Ok, Err, ok_or, if◌then◌else◌}
 use Rattle.std.specs.List.{list_all, starts_with}
+use Rattle.fs_types.specs.declared.limits.TheConstants.{LONGEST_FILE}
 use Rattle.fs_types.specs.PathText.{is_path}
 use Rattle.fs_script.specs.TextBytes.{is_text_byte}
 use Rattle.fs_script.specs.declared.limits.TheConstants.{TRANSFER_LIMIT}
@@ -32,15 +33,23 @@ path_of word = if is_path word then Ok word else Err (Bad reasons.Path)
 abbrev pub place_of : List ℕ → Result ℕ LineFault
 place_of word = or_bad reasons.Number (number_of word)
 
--- x, where one line may move so many bytes
-abbrev pub within_limit : {A : Type 0} → ℕ → A → Result A LineFault
-within_limit len x = if nat_le len TRANSFER_LIMIT then Ok x else Err OverLimit
+-- a number that is no more than the most
+abbrev pub number_up_to : ℕ → List ℕ → Result ℕ LineFault
+number_up_to most word = do
+  n ← or_bad reasons.Number (number_of word)
+  if nat_le n most then Ok n else Err OverLimit
 
 -- how many bytes a read asks for
 abbrev pub span_of : List ℕ → Result ℕ LineFault
-span_of word = do
-  len ← or_bad reasons.Number (number_of word)
-  within_limit len len
+span_of word = number_up_to TRANSFER_LIMIT word
+
+-- how long a file is to be
+abbrev pub length_of : List ℕ → Result ℕ LineFault
+length_of word = number_up_to LONGEST_FILE word
+
+-- x, where one line may move so many bytes
+abbrev pub within_limit : {A : Type 0} → ℕ → A → Result A LineFault
+within_limit len x = if nat_le len TRANSFER_LIMIT then Ok x else Err OverLimit
 
 -- a payload that is written out
 abbrev pub text_of : List ℕ → Result Data LineFault

@@ -4,7 +4,7 @@ ghost use Rattle.std.specs.Prelude.{◌≡◌};
 ghost use Rattle.fs_script.specs.declared.read.line_fault.LineFault.TheVariants.{Want};
 ghost use Rattle.fs_script.specs.declared.read.op_kind.OpKind.TheVariants as kinds;
 ghost use Rattle.fs_script.specs.Grammar.{is_note};
-ghost use Rattle.fs_script.specs.Reading.Lines.{path_alone, op_of_kind, op_of_words};
+ghost use Rattle.fs_script.specs.Reading.Lines.{path_alone, read_of, op_of_kind, op_of_words};
 ghost use Rattle.fs_script.specs.Reading.Lines.{op_line_of, line_of};
 ghost use Rattle.fs_script.specs.Returned.{Gives};
 
@@ -13,7 +13,7 @@ use crate::line::{Line, Op, OpLine};
 use crate::read::line_fault::LineFault;
 use crate::read::op_kind::OpKind;
 use crate::read::tokens::Tokens;
-use crate::read::word::{data, path, place, rank, span};
+use crate::read::word::{data, length, path, place, rank, span};
 use crate::shape::Shape;
 use fs_types::Path;
 use std::alloc::Global;
@@ -38,14 +38,24 @@ fn write(alloc: Global, words: Tokens<'_>) -> Result<(Path, Op), LineFault>
 }
 
 /// A read and its path, from the words after its name.
-fn read(alloc: Global, words: Tokens<'_>) -> Result<(Path, Op), LineFault>
-    ensures { Gives Want (λ x. x) result (op_of_kind kinds.Read words.entry) }
+fn read(alloc: Global, own: bool, words: Tokens<'_>) -> Result<(Path, Op), LineFault>
+    ensures { Gives Want (λ x. x) result (read_of own words.entry) }
 {
     let (name, off, len) = words.three().ok_or(LineFault::Bad(Reason::Words))?;
     let path = path(alloc, name)?;
     let off = place(off)?;
     let len = span(len)?;
-    Ok((path, Op::Read { off, len }))
+    Ok((path, Op::Read { off, len, own }))
+}
+
+/// A truncation and its path, from the words after its name.
+fn trunc(alloc: Global, words: Tokens<'_>) -> Result<(Path, Op), LineFault>
+    ensures { Gives Want (λ x. x) result (op_of_kind kinds.Trunc words.entry) }
+{
+    let (name, n) = words.two().ok_or(LineFault::Bad(Reason::Words))?;
+    let path = path(alloc, name)?;
+    let n = length(n)?;
+    Ok((path, Op::Trunc { n }))
 }
 
 /// An operation of this kind and its path, from the words after its name.
@@ -57,8 +67,11 @@ fn op_of_kind(alloc: Global, kind: OpKind, words: Tokens<'_>) -> Result<(Path, O
         OpKind::Open => Ok((path_alone(alloc, words)?, Op::Open)),
         OpKind::Write => write(alloc, words),
         OpKind::Sync => Ok((path_alone(alloc, words)?, Op::Sync)),
-        OpKind::Read => read(alloc, words),
+        OpKind::Read => read(alloc, false, words),
+        OpKind::ReadOwn => read(alloc, true, words),
         OpKind::Size => Ok((path_alone(alloc, words)?, Op::Size)),
+        OpKind::Trunc => trunc(alloc, words),
+        OpKind::Unlink => Ok((path_alone(alloc, words)?, Op::Unlink)),
     }
 }
 

@@ -15,7 +15,7 @@ pub enum LineFault {
     /// It is none of a script.
     #[error("none of a script")]
     Bad(Reason),
-    /// It moves too many bytes.
+    /// It moves too many bytes, or cuts a file to more than the longest has.
     #[error("over a limit")]
     OverLimit,
     /// Memory ran out.

@@ -11,7 +11,10 @@ pub enum OpKind {
     Write,
     Sync,
     Read,
+    ReadOwn,
     Size,
+    Trunc,
+    Unlink,
 }
 
 impl OpKind {
@@ -29,8 +32,14 @@ impl OpKind {
             Some(OpKind::Sync)
         } else if word == b"read".as_slice() {
             Some(OpKind::Read)
+        } else if word == b"readown".as_slice() {
+            Some(OpKind::ReadOwn)
         } else if word == b"size".as_slice() {
             Some(OpKind::Size)
+        } else if word == b"trunc".as_slice() {
+            Some(OpKind::Trunc)
+        } else if word == b"unlink".as_slice() {
+            Some(OpKind::Unlink)
         } else {
             None
         }

@@ -2,7 +2,8 @@
 
 ghost use Rattle.std.specs.Prelude.{◌≡◌};
 ghost use Rattle.fs_script.specs.declared.read.line_fault.LineFault.TheVariants.{Want};
-ghost use Rattle.fs_script.specs.Reading.Words.{rank_of, path_of, place_of, span_of};
+ghost use Rattle.fs_script.specs.Reading.Words.{rank_of, path_of, place_of};
+ghost use Rattle.fs_script.specs.Reading.Words.{number_up_to, span_of, length_of};
 ghost use Rattle.fs_script.specs.Reading.Words.{text_of, pattern_of, data_of};
 ghost use Rattle.fs_script.specs.Returned.{Gives};
 
@@ -14,7 +15,7 @@ use crate::read::number::read_number;
 use crate::read::tokens::Tokens;
 use crate::shape::Shape;
 use crate::text_bytes::TextBytes;
-use fs_types::{Path, PathFault, Rank};
+use fs_types::{LONGEST_FILE, Path, PathFault, Rank};
 use std::alloc::Global;
 
 /// A client of the job.
@@ -45,15 +46,29 @@ pub fn place(word: &[u8]) -> Result<u64, LineFault>
     read_number(word).ok_or(LineFault::Bad(Reason::Number))
 }
 
+/// A number that is no more than `most`.
+fn number_up_to(most: u64, word: &[u8]) -> Result<u64, LineFault>
+    ensures { result ≡ number_up_to most word.now }
+{
+    let number = read_number(word).ok_or(LineFault::Bad(Reason::Number))?;
+    if number > most {
+        return Err(LineFault::OverLimit);
+    }
+    Ok(number)
+}
+
 /// How many bytes a read asks for.
 pub fn span(word: &[u8]) -> Result<u64, LineFault>
     ensures { result ≡ span_of word.now }
 {
-    let len = read_number(word).ok_or(LineFault::Bad(Reason::Number))?;
-    if len > TRANSFER_LIMIT {
-        return Err(LineFault::OverLimit);
-    }
-    Ok(len)
+    number_up_to(TRANSFER_LIMIT, word)
+}
+
+/// How long a file is to be.
+pub fn length(word: &[u8]) -> Result<u64, LineFault>
+    ensures { result ≡ length_of word.now }
+{
+    number_up_to(LONGEST_FILE, word)
 }
 
 /// A payload that is written out.
