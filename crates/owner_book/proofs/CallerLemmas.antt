@@ -1,6 +1,7 @@
 -- What a caller cites of books: the crates above import from here alone.
 use Rattle.fs_types.proofs.Common.{◌≡◌, ℕ, ◌≤◌, Bool, List}
-use Rattle.fs_types.proofs.Common.{refl, sym, subst, cond_both, arith, none-some}
+use Rattle.fs_types.proofs.Common.{refl, sym, subst, cond_both, arith, none-some, Result, Ok, Err, OnOk}
+use Rattle.std.specs.Result.{OnErr}
 use Rattle.fs_types.specs.Fragments.{end_of}
 use Rattle.fs_types.specs.Pieces.{Piece}
 use Rattle.span_list.proofs.CallerLemmas.{AllPairs-nil}
@@ -47,6 +48,14 @@ module _ {H : Type 0} (is_ready : H → Bool) (piece : H → Piece) (byte_count 
       let has = subst (HasHolds is_ready piece byte_count) (at-changed old new gfid p x changes) here in
       subst (HasHolds is_ready piece byte_count) (sym (changes g q))
       (cond_both (same_file g q gfid p) x (path_in old g q) (HasHolds is_ready piece byte_count) (λ _. has) (λ _. all g q))
+
+  -- as those of a book of which a call changed one path, or was refused
+  pub holds-called : {X E : Type 0} (result : Result X E) (old new : Book H) (gfid : ℕ) (p : List ℕ) (x : BookPath H)
+      → OnOk result (Changes old new gfid p x) → OnErr result (IsAsBefore old new)
+      → HasHolds is_ready piece byte_count (path_in new gfid p) → AllHaveHolds is_ready piece byte_count old
+      → AllHaveHolds is_ready piece byte_count new
+  holds-called (Ok _) old new gfid p x changes same here all = holds-changed old new gfid p x changes here all
+  holds-called (Err _) old new gfid p x changes same here all = holds-same old new same all
 
   -- as one does whose file was made just now
   pub holds-made : (old new : Book H) (gfid : ℕ) (p : List ℕ) (line : ℕ) → Changes old new gfid p (created line (path_in old gfid p))

@@ -1,15 +1,18 @@
 -- The definitions at single values.
 use Rattle.fs_types.proofs.Common.{◌≡◌, ℕ, true, false, List, [], ◌∷◌, All-cons, All-nil, Option, Some, None, if◌then◌else◌, refl}
-use Rattle.fs_types.proofs.Common.{same_Some, subst}
+use Rattle.fs_types.proofs.Common.{same_Some, subst, take, arith, true≢false}
+use Rattle.std.proofs.Common.{lit<}
 use Rattle.fs_types.specs.Fragments.{piece_eq}
 use Rattle.fs_types.specs.Marks.{Mark}
 use Rattle.fs_types.specs.Pieces.{Fragment, Piece}
+use Rattle.fs_types.specs.PlainFile.{File}
 use Rattle.fs_types.specs.declared.hold.Hold as hold
 use Rattle.fs_types.specs.declared.mem_hold.MemHold.{MemHold}
-use Rattle.piece_table.specs.HeldSpans.{Held}
-use Rattle.owner_book.specs.Commits.{size_after}
-use Rattle.owner_book.specs.Journals.{creation, addition, state}
+use Rattle.piece_table.specs.HeldSpans.{AreGone, Held, pushed}
+use Rattle.owner_book.specs.Commits.{laid_over, size_after}
+use Rattle.owner_book.specs.Journals.{Entry, creation, addition, truncation, removal, deed_after, file_after}
 use Rattle.owner_book.specs.Lookups.{IsLike, Pins, parts_in, pieces_named}
+use Rattle.owner_book.specs.Truncations.{beside, cut_off}
 
 abbrev piece : ℕ → Piece
 piece line = record { line = line; part = 0 }
@@ -46,19 +49,70 @@ no_shorter_than_before : size_after 20 three ≡ 20
 no_shorter_than_before = refl
 
 -- a file, 2 bytes of it, and 1 over the second and another behind a gap
-two_commits : state (record { line = 2; deed = creation } ∷ record { line = 4; deed = addition (frag 0 2 3 0 ∷ []) }
+two_commits : file_after (record { line = 2; deed = creation } ∷ record { line = 4; deed = addition (frag 0 2 3 0 ∷ []) }
     ∷ record { line = 7; deed = addition (frag 1 1 5 0 ∷ frag 3 1 6 0 ∷ []) } ∷ [])
     ≡ Some (record { cells = Some (mark 3 0) ∷ Some (mark 5 0) ∷ None ∷ Some (mark 6 0) ∷ []; frozen = false })
 two_commits = refl
 
+-- ---- a path over two lives
+
+-- 4 bytes of line 3; 4 of line 5 put over their end, and 5 bytes kept; 7 kept, of which nobody wrote 2; 2 kept; and none. Then the
+-- file is removed, and a later one is made.
+abbrev lives : List Entry
+lives =
+    record { line = 2; deed = creation } ∷ record { line = 4; deed = addition (frag 0 4 3 0 ∷ []) }
+    ∷ record { line = 6; deed = truncation (frag 2 4 5 0 ∷ []) 5 } ∷ record { line = 7; deed = truncation [] 7 }
+    ∷ record { line = 8; deed = truncation [] 2 } ∷ record { line = 9; deed = truncation [] 0 }
+    ∷ record { line = 10; deed = removal } ∷ record { line = 11; deed = truncation [] 3 } ∷ record { line = 12; deed = creation } ∷ []
+
+abbrev after : ℕ → File (Option Mark)
+after n = file_after (take n lives)
+
+abbrev file_with : List (Option Mark) → File (Option Mark)
+file_with cells = Some (record { cells = cells; frozen = false })
+
+before_all_lines : after 0 ≡ None
+before_all_lines = refl
+
+cut_after_a_push : after 3 ≡ file_with (Some (mark 3 0) ∷ Some (mark 3 1) ∷ Some (mark 5 0) ∷ Some (mark 5 1) ∷ Some (mark 5 2) ∷ [])
+cut_after_a_push = refl
+
+extended_past_its_end : after 4
+    ≡ file_with (Some (mark 3 0) ∷ Some (mark 3 1) ∷ Some (mark 5 0) ∷ Some (mark 5 1) ∷ Some (mark 5 2) ∷ None ∷ None ∷ [])
+extended_past_its_end = refl
+
+cut_in_the_middle : after 5 ≡ file_with (Some (mark 3 0) ∷ Some (mark 3 1) ∷ [])
+cut_in_the_middle = refl
+
+cut_to_nothing : after 6 ≡ file_with []
+cut_to_nothing = refl
+
+removed_file : after 7 ≡ None
+removed_file = refl
+
+no_file_to_cut : after 8 ≡ None
+no_file_to_cut = refl
+
+made_again : after 9 ≡ file_with []
+made_again = refl
+
+abbrev frozen_file : File (Option Mark)
+frozen_file = Some (record { cells = Some (mark 3 0) ∷ []; frozen = true })
+
+frozen_file_stays : deed_after frozen_file (truncation [] 0) ≡ frozen_file
+frozen_file_stays = refl
+
+frozen_file_is_removed : deed_after frozen_file removal ≡ None
+frozen_file_is_removed = refl
+
 -- where there is no file, nothing is put
-no_file : state (record { line = 4; deed = addition (frag 0 2 3 0 ∷ []) } ∷ []) ≡ None
+no_file : file_after (record { line = 4; deed = addition (frag 0 2 3 0 ∷ []) } ∷ []) ≡ None
 no_file = refl
 
 -- ---- pins
 
 abbrev mem : hold.Ghosts MemHold
-mem = record { is_ready = λ h. true; piece = λ h. h.piece; bytes = λ h. h.bytes; room = λ h. h.room }
+mem = record { is_ready = λ h. true; piece = λ h. h.piece; bytes = λ h. h.bytes; room = λ h. h.room; Place = Unit {0}; place = λ _. tt }
 
 abbrev hold_with : ℕ → Option ℕ → MemHold
 hold_with line room = record { piece = piece line; bytes = 8; room = room }
@@ -72,7 +126,7 @@ kept = record {
 
 like_the_first : (h : MemHold) → Some (hold_with 3 (Some 1)) ≡ Some h → IsLike mem h (hold_with 3 (Some 0))
 like_the_first h same =
-    subst (λ x. IsLike mem x (hold_with 3 (Some 0))) (same_Some (hold_with 3 (Some 1)) h same) (record { ready = refl; piece = refl; bytes = refl })
+    subst (λ x. IsLike mem x (hold_with 3 (Some 0))) (same_Some (hold_with 3 (Some 1)) h same) (record { ready = refl; piece = refl; bytes = refl; place = refl })
 
 -- the piece with room has a pin, and the one without is bare
 a_pin_and_a_bare_piece : Pins mem kept (piece 3 ∷ piece 4 ∷ []) (hold_with 3 (Some 0) ∷ []) (piece 4 ∷ [])
@@ -82,3 +136,26 @@ a_pin_and_a_bare_piece = record {
   each = All-cons (λ pin. (h : MemHold) → kept.hold_of pin.piece ≡ Some h → IsLike mem h pin) (hold_with 3 (Some 0)) [] like_the_first
       (All-nil (λ pin. (h : MemHold) → kept.hold_of pin.piece ≡ Some h → IsLike mem h pin));
 }
+
+-- ---- cuts
+
+-- of line 4 two bytes are left, and its hold
+cut_within_a_piece : (cut_off 8 kept).fragments ≡ frag 0 4 3 0 ∷ frag 6 2 4 0 ∷ []
+cut_within_a_piece = refl
+
+hold_of_what_is_left : (cut_off 8 kept).hold_of (piece 4) ≡ Some (hold_with 4 (Some 0))
+hold_of_what_is_left = refl
+
+no_hold_of_what_is_gone : (cut_off 6 kept).hold_of (piece 4) ≡ None
+no_hold_of_what_is_gone = refl
+
+-- two bytes of line 9 behind the others
+abbrev behind : Held MemHold
+behind = pushed (λ h. h.piece) (frag 20 2 9 0 ∷ []) (hold_with 9 None ∷ [])
+
+-- The hold of what was put past the size may not be left out, nor be handed out while a byte is left.
+not_left_out : AreGone (λ h. h.piece) (beside behind kept) (cut_off 20 (laid_over behind kept)) [] → ⊥
+not_left_out are = let there = are.each (piece 9) (hold_with 9 None) refl refl in omega (arith, there.1)
+
+not_while_named : AreGone (λ h. h.piece) (beside behind kept) (cut_off 21 (laid_over behind kept)) (hold_with 9 None ∷ []) → ⊥
+not_while_named are = true≢false (are.unnamed 0 (hold_with 9 None) (lit< tt))

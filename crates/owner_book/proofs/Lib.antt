@@ -1,5 +1,6 @@
 pub mod Paths
 pub mod Pushes
+pub mod Truncations
 pub mod States
 pub mod SameState
 pub mod Parts

@@ -8,12 +8,9 @@ use Rattle.owner_book.specs.Calls.{attr, attr_in}
 use Rattle.owner_book.specs.HoldLends.{with_file_hold}
 use Rattle.owner_book.specs.Journals.{Entry, LentStands, LookedStands, StandsFor, marked}
 use Rattle.owner_book.specs.Kept.{BookFile, BookPath, held_at, held_in}
+use Rattle.owner_book.proofs.States.{IsWithin}
 
 module _ {H : Type 0} where
-  -- the fragments of a file end within it
-  abbrev IsWithin : Option (BookFile H) → Type 0
-  IsWithin file = IfSome file (λ f. All (λ g. end_of g ≤ f.size) f.held.fragments)
-
   -- of a file with the same attributes and fragments the marks are the same, and the fragments end within it
   same-marks : (old new : Option (BookFile H)) → attr_in new ≡ attr_in old → (held_in new).fragments ≡ (held_in old).fragments
       → marked new ≡ marked old

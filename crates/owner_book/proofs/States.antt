@@ -1,28 +1,31 @@
 -- A path's file is the state of its journal: one line more.
 use Rattle.fs_types.proofs.Common.{◌≡◌, ℕ, ◌<◌, ◌≤◌, max, Bool, true, false, List, [], ◌∷◌, ◌++◌, map, fold, All, All-head, All-tail}
 use Rattle.fs_types.proofs.Common.{Option, Some, None}
-use Rattle.fs_types.proofs.Common.{refl, sym, ap, ◌∙◌, map-append, IfSome, none-some, suc, arith, option_map, if◌then◌else◌, length}
-use Rattle.fs_types.specs.Marks.{Mark}
+use Rattle.fs_types.proofs.Common.{refl, sym, ap, ◌∙◌, map-append, IfSome, none-some, suc, arith, option_map, if◌then◌else◌, length, cond-false}
+use Rattle.fs_types.specs.Marks.{Mark, no_mark}
+use Rattle.fs_types.specs.Overwrite.{cut}
+use Rattle.fs_types.specs.PlainFile.{File}
 use Rattle.owner_book.specs.declared.book_no.BookNo.TheVariants.{ReadOnly}
 use Rattle.fs_types.specs.FragmentMarks.{marks_of_fragments}
 use Rattle.fs_types.specs.Fragments.{end_of}
 use Rattle.fs_types.specs.Pieces.{Fragment, Piece}
-use Rattle.fs_types.specs.declared.push.Push.{Push}
 use Rattle.span_list.specs.Spans.{put_fragment}
-use Rattle.span_list.proofs.CallerLemmas.{marks_of_fragments-put, put_ends}
+use Rattle.span_list.proofs.CallerLemmas.{cut_ends, marks_of_fragments-cut, marks_of_fragments-put, put_ends}
 use Rattle.piece_table.specs.HeldSpans.{put_fragments}
 use Rattle.owner_book.specs.Kept.{BookFile, BookPath, no_path}
 use Rattle.owner_book.specs.Calls.{change_refusal, create_refusal}
 use Rattle.owner_book.specs.Commits.{size_after, with_push}
-use Rattle.owner_book.specs.Journals.{CommittedStands, CreatedStands, creation, addition, Entry, StandsFor, deed_after, marked, put_marks, state}
+use Rattle.owner_book.specs.Journals.{CommittedStands, CreatedStands, StandsFor, TruncatedStands, UnlinkedStands}
+use Rattle.owner_book.specs.Journals.{creation, addition, truncation, removal, Deed, Entry, deed_after, file_after, marked, put_marks}
+use Rattle.owner_book.specs.Truncations.{with_size}
 use Rattle.owner_book.proofs.Pushes.{ends-laid}
 
 fold-push : {X Y : Type 0} (f : Y → X → Y) (z : Y) (xs : List X) (x : X) → fold f z (xs ++ x ∷ []) ≡ f (fold f z xs) x
 fold-push f z [] x = refl
 fold-push f z (y ∷ xs) x = fold-push f (f z y) xs x
 
-state-more : (entries : List Entry) (e : Entry) → state (entries ++ e ∷ []) ≡ deed_after (state entries) e.deed
-state-more entries e = fold-push (λ f d. deed_after f d.deed) None entries e
+file_after-more : (entries : List Entry) (e : Entry) → file_after (entries ++ e ∷ []) ≡ deed_after (file_after entries) e.deed
+file_after-more entries e = fold-push (λ f d. deed_after f d.deed) None entries e
 
 -- the marks after all fragments of a list were put
 pub marks-laid : (over fs : List Fragment) (n : ℕ) → All (λ f. 0 < f.len) over → All (λ f. end_of f ≤ n) fs
@@ -32,7 +35,26 @@ marks-laid (f ∷ over) fs n some ends =
     marks-laid over (put_fragment f fs) (max n (end_of f)) (All-tail (λ g. 0 < g.len) f over some) (put_ends f fs n ends)
     ∙ ap (put_marks over) (marks_of_fragments-put f fs n (All-head (λ g. 0 < g.len) f over some) ends)
 
+-- a removal leaves no file
+removed : (f : File (Option Mark)) → deed_after f removal ≡ None
+removed None = refl
+removed (Some f) = refl
+
+-- a file with these marks
+abbrev file_with : Bool → List (Option Mark) → File (Option Mark)
+file_with frozen marks = Some (record { cells = marks; frozen = frozen })
+
+-- the marks of a file that isn't frozen become others
+unfrozen-marks : (frozen : Bool) (marks old new : List (Option Mark)) → frozen ≡ false → marks ≡ new
+    → file_with frozen marks ≡ (if frozen then file_with frozen old else file_with frozen new)
+unfrozen-marks frozen marks old new unfrozen same =
+    ap (file_with frozen) same ∙ sym (cond-false frozen (file_with frozen old) (file_with frozen new) unfrozen)
+
 module _ {H : Type 0} where
+  -- the fragments of a file end within it
+  abbrev pub IsWithin : Option (BookFile H) → Type 0
+  IsWithin file = IfSome file (λ f. All (λ g. end_of g ≤ f.size) f.held.fragments)
+
   lines-more : (entries : List Entry) (x : BookPath H) (e : Entry) → x.journal ≡ map (λ d. d.line) entries
       → x.journal ++ e.line ∷ [] ≡ map (λ d. d.line) (entries ++ e ∷ [])
   lines-more entries x e same = ap (λ ls. ls ++ e.line ∷ []) same ∙ sym (map-append (λ d. d.line) entries (e ∷ []))
@@ -47,7 +69,7 @@ module _ {H : Type 0} where
   pub created-stands : CreatedStands H
   created-stands entries x line stands none = record {
     journal = lines-more entries x (record { line = line; deed = creation }) stands.journal;
-    file = sym (state-more entries (record { line = line; deed = creation }) ∙ ap (λ f. deed_after f creation) (sym stands.file)
+    file = sym (file_after-more entries (record { line = line; deed = creation }) ∙ ap (λ f. deed_after f creation) (sym stands.file)
         ∙ ap (λ f. deed_after (marked f) creation) (absent x.journal x.file none));
     within = λ k d below. absurd (nothing k below);
   }
@@ -55,32 +77,60 @@ module _ {H : Type 0} where
       nothing : (k : ℕ) → suc k ≤ 0 → ⊥
       nothing k below = omega arith
 
-  -- a file that may be changed, over which a push was put
-  pushed : (piece : H → Piece) (push : Push H) (journal : List ℕ) (file : Option (BookFile H)) → All (λ f. 0 < f.len) push.frags.items
-      → change_refusal (record { journal = journal; file = file }) ≡ None
-      → IfSome file (λ f. All (λ g. end_of g ≤ f.size) f.held.fragments)
-      → (marked (option_map (with_push piece push) file) ≡ deed_after (marked file) (addition push.frags.items))
-      × IfSome (option_map (with_push piece push) file) (λ f. All (λ g. end_of g ≤ f.size) f.held.fragments)
-  pushed piece push journal None some none within = absurd (none-some _ (sym none))
-  pushed piece push journal (Some f) some none within = (by f.frozen refl, ends-laid push.frags.items f.held.fragments f.size within)
+  pub unlinked-stands : UnlinkedStands H
+  unlinked-stands entries x line stands = record {
+    journal = lines-more entries x (record { line = line; deed = removal }) stands.journal;
+    file = sym (file_after-more entries (record { line = line; deed = removal }) ∙ removed (file_after entries));
+    within = tt;
+  }
+
+  -- what makes of a file that isn't frozen what a deed makes of its marks
+  abbrev DoesSo : (BookFile H → BookFile H) → Deed → Type 0
+  DoesSo change deed =
+      (f : BookFile H) → f.frozen ≡ false → IsWithin (Some f)
+      → (marked (Some (change f)) ≡ deed_after (marked (Some f)) deed) × IsWithin (Some (change f))
+
+  -- does so with a file that may be changed
+  changed : (change : BookFile H → BookFile H) (deed : Deed) → DoesSo change deed → (journal : List ℕ) (file : Option (BookFile H))
+      → change_refusal (record { journal = journal; file = file }) ≡ None → IsWithin file
+      → (marked (option_map change file) ≡ deed_after (marked file) deed) × IsWithin (option_map change file)
+  changed change deed so journal None none within = absurd (none-some _ (sym none))
+  changed change deed so journal (Some f) none within = so f (unfrozen f.frozen none) within
     where
-      cells : List (Option Mark)
-      cells = marks_of_fragments f.held.fragments f.size
+      unfrozen : (b : Bool) → (if b then Some (ReadOnly (length journal)) else None) ≡ None → b ≡ false
+      unfrozen true none = absurd (none-some _ (sym none))
+      unfrozen false none = refl
 
-      by : (b : Bool) → f.frozen ≡ b
-          → marked (Some (with_push piece push f)) ≡ deed_after (marked (Some f)) (addition push.frags.items)
-      by true e = absurd (none-some _ (sym none ∙ ap (λ b. if b then Some (ReadOnly (length journal)) else None) e))
-      by false e =
-          ap (λ ms. Some (record { cells = ms; frozen = f.frozen })) (marks-laid push.frags.items f.held.fragments f.size some within)
-          ∙ sym (ap (λ b. if b then Some (record { cells = cells; frozen = f.frozen })
-          else Some (record { cells = put_marks push.frags.items cells; frozen = f.frozen })) e)
-
-  pub committed-stands : (piece : H → Piece) → CommittedStands piece
-  committed-stands piece entries x line push some stands none =
-      let after = pushed piece push x.journal x.file some none stands.within in
+  changed-stands : (change : BookFile H → BookFile H) (deed : Deed) → DoesSo change deed → (entries : List Entry) (x : BookPath H) (line : ℕ)
+      → StandsFor entries x → change_refusal x ≡ None
+      → StandsFor (entries ++ record { line = line; deed = deed } ∷ [])
+      (record { journal = x.journal ++ line ∷ []; file = option_map change x.file })
+  changed-stands change deed so entries x line stands none =
+      let after = changed change deed so x.journal x.file none stands.within in
       record {
-        journal = lines-more entries x (record { line = line; deed = addition push.frags.items }) stands.journal;
-        file = after.0 ∙ ap (λ f. deed_after f (addition push.frags.items)) stands.file
-            ∙ sym (state-more entries (record { line = line; deed = addition push.frags.items }));
+        journal = lines-more entries x (record { line = line; deed = deed }) stands.journal;
+        file = after.0 ∙ ap (λ f. deed_after f deed) stands.file ∙ sym (file_after-more entries (record { line = line; deed = deed }));
         within = after.1;
       }
+
+  pub committed-stands : (piece : H → Piece) → CommittedStands piece
+  committed-stands piece entries x line push some =
+      let over : List Fragment = push.frags.items in
+      changed-stands (with_push piece push) (addition over)
+      (λ f unfrozen within. (
+        unfrozen-marks f.frozen _ (marks_of_fragments f.held.fragments f.size) _ unfrozen (marks-laid over f.held.fragments f.size some within),
+        ends-laid over f.held.fragments f.size within,
+      ))
+      entries x line
+
+  pub truncated-stands : (piece : H → Piece) → TruncatedStands piece
+  truncated-stands piece entries x line push size some =
+      let over : List Fragment = push.frags.items in
+      changed-stands (λ f. with_size size (with_push piece push f)) (truncation over size)
+      (λ f unfrozen within. (
+        unfrozen-marks f.frozen _ (marks_of_fragments f.held.fragments f.size) _ unfrozen
+            (marks_of_fragments-cut size (put_fragments over f.held.fragments) (size_after f.size over) (ends-laid over f.held.fragments f.size within)
+            ∙ ap (λ ms. cut no_mark ms size) (marks-laid over f.held.fragments f.size some within)),
+        cut_ends size (put_fragments over f.held.fragments),
+      ))
+      entries x line

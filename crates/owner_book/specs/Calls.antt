@@ -39,9 +39,17 @@ module _ {H : Type 0} where
       if (attr x).exists then if (attr x).frozen then Some (ReadOnly (version x)) else None
       else Some (NoEnt (version x))
 
+  -- why a file isn't looked up or removed: there is none
+  abbrev pub no_file_refusal : BookPath H → Option BookNo
+  no_file_refusal x = if (attr x).exists then None else Some (NoEnt (version x))
+
   -- a path once a line created its file
   abbrev pub created : ℕ → BookPath H → BookPath H
   created line x = record { journal = x.journal ++ line ∷ []; file = Some empty_file }
+
+  -- a path once a line removed its file
+  abbrev pub without_file : ℕ → BookPath H → BookPath H
+  without_file line x = record { journal = x.journal ++ line ∷ []; file = None }
 
   -- the book has this of one path, and of every other what it had, also of those with the same gfid
   abbrev pub Changes : Book H → Book H → ℕ → List ℕ → BookPath H → Type 0

@@ -29,8 +29,8 @@ module _ {H : Type 0} where
   }
 
   -- a path once a line committed a push to its file
-  abbrev pub committed : (H → Piece) → ℕ → Push H → BookPath H → BookPath H
-  committed piece line push x = record { journal = x.journal ++ line ∷ []; file = option_map (with_push piece push) x.file }
+  abbrev pub with_commit : (H → Piece) → ℕ → Push H → BookPath H → BookPath H
+  with_commit piece line push x = record { journal = x.journal ++ line ∷ []; file = option_map (with_push piece push) x.file }
 
   -- each piece of the path's file has a ready hold of its own, and no other piece has one
   abbrev pub HasHolds : (H → Bool) → (H → Piece) → (H → ℕ) → BookPath H → Type 0

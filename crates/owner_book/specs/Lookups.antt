@@ -10,10 +10,8 @@ use Rattle.fs_types.specs.Room.{is_at_most, lowered}
 use Rattle.fs_types.specs.declared.hold.Hold as hold
 use Rattle.span_list.specs.Spans.{cut_fragments, rest_from}
 use Rattle.piece_table.specs.HeldSpans.{Held}
-use Rattle.owner_book.specs.declared.book_no.BookNo.{BookNo}
-use Rattle.owner_book.specs.declared.book_no.BookNo.TheVariants.{NoEnt}
 use Rattle.owner_book.specs.Kept.{BookPath, held_at}
-use Rattle.owner_book.specs.Calls.{attr, version}
+use Rattle.owner_book.specs.Calls.{attr}
 
 -- what of fragments stands in a range, from a place to before another
 abbrev pub parts_in : ℕ → ℕ → List Fragment → List Fragment
@@ -30,10 +28,6 @@ is_one_of ps q = list_any (piece_eq q) ps
 -- the pieces that fragments name, each once, in the order of the first fragments that name them
 abbrev pub pieces_named : List Fragment → List Piece
 pieces_named fs = fold (λ ps f. if is_one_of ps f.piece then ps else ps ++ f.piece ∷ []) [] fs
-
--- why nothing is looked up: there is no file
-abbrev pub lookup_refusal : {H : Type 0} → BookPath H → Option BookNo
-lookup_refusal x = if (attr x).exists then None else Some (NoEnt (version x))
 
 module _ {H : Type 0} where
   -- the holds of these pieces became others in this way, and all else stays
@@ -53,11 +47,12 @@ module _ {H : Type 0} (met : hold.Ghosts H) where
   abbrev pub is_bare : Held H → Piece → Bool
   is_bare x q = option_map_or (λ h. is_at_most (met.room h) 0) (x.hold_of q) false
 
-  -- a ready hold of the same piece
+  -- a ready hold of the same piece in the same place
   pub record IsLike (was now : H) : Type 0 where
     pub ready : IsTrue (met.is_ready now)
     pub piece : met.piece now ≡ met.piece was
     pub bytes : met.bytes now ≡ met.bytes was
+    pub place : met.place now ≡ met.place was
 
   -- Each of the pieces has one pin, or is bare, which it is exactly where its hold has no room for a pin.
   pub record Pins (x : Held H) (pieces : List Piece) (holds : List H) (bare : List Piece) : Type 0 where

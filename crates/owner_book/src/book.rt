@@ -1,13 +1,19 @@
 //! The files of one owner.
 
-ghost use Rattle.std.specs.Prelude.{◌≡◌, ◌+◌, ℕ, List, IfErr, IfOk, IfSome, OnOk, OnErr};
+ghost use Rattle.std.specs.Prelude.{◌≡◌, ◌≤◌, ◌+◌, ℕ, List};
+ghost use Rattle.std.specs.Prelude.{IfErr, IfOk, IfSome, OnErr, OnOk};
 ghost use Rattle.std.specs.Borrow.{sem};
 ghost use Rattle.std.specs.Option.{option_copied_mut};
+ghost use Rattle.fs_types.specs.declared.limits.TheConstants.{LONGEST_FILE};
+ghost use Rattle.piece_table.specs.HeldSpans.{AreGone};
 ghost use Rattle.owner_book.specs.Kept.{AreWithin, held_at, no_path, path_in, path_of};
-ghost use Rattle.owner_book.specs.Calls.{AnswersBy, Changes, IsAsBefore, attr, change_refusal, create_refusal, created, opened, version};
-ghost use Rattle.owner_book.specs.Commits.{AreDead, HasHolds, MayCommit, committed};
+ghost use Rattle.owner_book.specs.Calls.{AnswersBy, Changes, IsAsBefore};
+ghost use Rattle.owner_book.specs.Calls.{attr, created, opened, version, without_file};
+ghost use Rattle.owner_book.specs.Calls.{change_refusal, create_refusal, no_file_refusal};
+ghost use Rattle.owner_book.specs.Commits.{AreDead, HasHolds, MayCommit, with_commit};
 ghost use Rattle.owner_book.specs.HoldLends.{lends_hold_of};
-ghost use Rattle.owner_book.specs.Lookups.{Asks, IsLooked, MayAsk, Pins, lookup_refusal, parts_in, pieces_named};
+ghost use Rattle.owner_book.specs.Lookups.{Asks, IsLooked, MayAsk, Pins, parts_in, pieces_named};
+ghost use Rattle.owner_book.specs.Truncations.{AreDeadOfBoth, changed, held_before, with_truncation};
 
 use crate::book_no::BookNo;
 use crate::committed::Committed;
@@ -149,9 +155,69 @@ impl<H: Hold + Drop, S: Spans + Drop> OwnerBook<H, S> {
         ensures version { IfOk result (λ c. c.v ≡ version (path_in self.new gfid p.now)) }
         ensures attr { IfOk result (λ c. c.attr ≡ attr (path_in self.new gfid p.now)) }
         ensures committed { OnOk result (Changes self.old self.new gfid p.now
-            (committed H.piece line push (path_in self.old gfid p.now))) }
+            (with_commit H.piece line push (path_in self.old gfid p.now))) }
         ensures dead { IfOk result (λ c. AreDead H.piece (path_in self.old gfid p.now)
             (path_in self.new gfid p.now) c.dead.items) }
+        ensures given_back { IfErr result (λ e. e.1 ≡ push) }
+        ensures same { OnErr result (IsAsBefore self.old self.new) }
+        ensures holds { HasHolds H.is_ready H.piece H.bytes (path_in self.new gfid p.now) }
+    {
+        self.change(alloc, gfid, p, line, push, None)
+    }
+
+    /// Commits a line that puts a push over a path's file, and then cuts it to so many bytes, or
+    /// extends it to them by bytes that nobody wrote. It is refused as a commit is. After a refusal
+    /// the book is as before, and the push is given back.
+    pub fn trunc(
+        &mut self,
+        alloc: Global,
+        gfid: u64,
+        p: &Path,
+        line: LineNo,
+        size: u64,
+        push: Push<H>,
+    ) -> Result<Committed<H>, (BookNo, Push<H>)>
+        requires size { size ≤ LONGEST_FILE }
+        requires holds { HasHolds H.is_ready H.piece H.bytes (path_in self.old gfid p.now) }
+        requires push { MayCommit H.is_ready H.piece H.bytes push (path_in self.old gfid p.now) }
+        ensures answer { AnswersBy (λ e. e.0)
+            (change_refusal (path_in self.old gfid p.now)) result }
+        ensures version { IfOk result (λ c. c.v ≡ version (path_in self.new gfid p.now)) }
+        ensures attr { IfOk result (λ c. c.attr ≡ attr (path_in self.new gfid p.now)) }
+        ensures truncated { OnOk result (Changes self.old self.new gfid p.now
+            (with_truncation H.piece line push size (path_in self.old gfid p.now))) }
+        ensures dead { IfOk result (λ c. AreDeadOfBoth H.piece push (path_in self.old gfid p.now)
+            (path_in self.new gfid p.now) c.dead.items) }
+        ensures given_back { IfErr result (λ e. e.1 ≡ push) }
+        ensures same { OnErr result (IsAsBefore self.old self.new) }
+        ensures holds { HasHolds H.is_ready H.piece H.bytes (path_in self.new gfid p.now) }
+    {
+        self.change(alloc, gfid, p, line, push, Some(size))
+    }
+
+    // Commits a line that puts a push over a path's file, and then cuts or extends it to a size,
+    // where one is given.
+    fn change(
+        &mut self,
+        alloc: Global,
+        gfid: u64,
+        p: &Path,
+        line: LineNo,
+        push: Push<H>,
+        size: Option<u64>,
+    ) -> Result<Committed<H>, (BookNo, Push<H>)>
+        requires size { IfSome size (λ n. n ≤ LONGEST_FILE) }
+        requires holds { HasHolds H.is_ready H.piece H.bytes (path_in self.old gfid p.now) }
+        requires push { MayCommit H.is_ready H.piece H.bytes push (path_in self.old gfid p.now) }
+        ensures answer { AnswersBy (λ e. e.0)
+            (change_refusal (path_in self.old gfid p.now)) result }
+        ensures version { IfOk result (λ c. c.v ≡ version (path_in self.new gfid p.now)) }
+        ensures attr { IfOk result (λ c. c.attr ≡ attr (path_in self.new gfid p.now)) }
+        ensures changed { OnOk result (Changes self.old self.new gfid p.now
+            (changed H.piece line push size (path_in self.old gfid p.now))) }
+        ensures dead { IfOk result (λ c. AreGone H.piece
+            (held_before H.piece push size (held_at (path_in self.old gfid p.now)))
+            (held_at (path_in self.new gfid p.now)) c.dead.items) }
         ensures given_back { IfErr result (λ e. e.1 ≡ push) }
         ensures same { OnErr result (IsAsBefore self.old self.new) }
         ensures holds { HasHolds H.is_ready H.piece H.bytes (path_in self.new gfid p.now) }
@@ -160,7 +226,36 @@ impl<H: Hold + Drop, S: Spans + Drop> OwnerBook<H, S> {
         let Some(kept) = self.files.get_mut(FileName { gfid, path }) else {
             return Err((BookNo::NoEnt(Version(0)), push));
         };
-        kept.commit(alloc, line, push)
+        kept.change(alloc, line, push, size)
+    }
+
+    /// Commits a line that removes a path's file, also a frozen one, and gives the holds of all
+    /// its pieces. The journal goes on, so a file that is created again has a later version. Where
+    /// there is no file it is refused. After a refusal the book is as before.
+    pub fn unlink(
+        &mut self,
+        alloc: Global,
+        gfid: u64,
+        p: &Path,
+        line: LineNo,
+    ) -> Result<Committed<H>, BookNo>
+        requires holds { HasHolds H.is_ready H.piece H.bytes (path_in self.old gfid p.now) }
+        ensures answer { AnswersBy (λ no. no)
+            (no_file_refusal (path_in self.old gfid p.now)) result }
+        ensures version { IfOk result (λ c. c.v ≡ version (path_in self.new gfid p.now)) }
+        ensures attr { IfOk result (λ c. c.attr ≡ attr (path_in self.new gfid p.now)) }
+        ensures unlinked { OnOk result (Changes self.old self.new gfid p.now
+            (without_file line (path_in self.old gfid p.now))) }
+        ensures dead { IfOk result (λ c. AreDead H.piece (path_in self.old gfid p.now)
+            (path_in self.new gfid p.now) c.dead.items) }
+        ensures same { OnErr result (IsAsBefore self.old self.new) }
+        ensures holds { HasHolds H.is_ready H.piece H.bytes (path_in self.new gfid p.now) }
+    {
+        let path = p.as_bytes();
+        let Some(kept) = self.files.get_mut(FileName { gfid, path }) else {
+            return Err(BookNo::NoEnt(Version(0)));
+        };
+        kept.unlink(alloc, line)
     }
 
     /// Looks up a range of a path's file: the fragments in it, and for each piece that they name a
@@ -176,7 +271,7 @@ impl<H: Hold + Drop, S: Spans + Drop> OwnerBook<H, S> {
     ) -> Result<Looked<H>, BookNo>
         requires holds { HasHolds H.is_ready H.piece H.bytes (path_in self.old gfid p.now) }
         ensures answer { AnswersBy (λ no. no)
-            (lookup_refusal (path_in self.old gfid p.now)) result }
+            (no_file_refusal (path_in self.old gfid p.now)) result }
         ensures version { IfOk result (λ found. found.v ≡ version (path_in self.old gfid p.now)) }
         ensures attr { IfOk result (λ found. found.attr ≡ attr (path_in self.old gfid p.now)) }
         ensures frags { IfOk result (λ found. found.frags.items
@@ -199,8 +294,8 @@ impl<H: Hold + Drop, S: Spans + Drop> OwnerBook<H, S> {
         kept.lookup(alloc, off, len)
     }
 
-    /// The hold of a piece that a path's file names, to change. What is left behind the reference is
-    /// the hold of the piece then; all else stays.
+    /// The hold of a piece that a path's file names, to change. What is left behind the reference
+    /// is the hold of the piece then; all else stays.
     pub fn hold_of(&mut self, gfid: u64, p: &Path, id: PieceId) -> Option<&mut H>
         ensures* writes_back { sem 𝓛
             (lends_hold_of H.row S.row H.Hold S.Spans self.entry gfid p.now id result) }

@@ -75,6 +75,7 @@ pub use book_no::BookNo;
 pub use committed::Committed;
 pub use laws::{files_are_states_of_their_journals, lookups_name_the_marks_of_their_range};
 pub use looked::Looked;
+pub use looking::next_part;
 
 #[cfg(test)]
 mod tests;

@@ -2,6 +2,7 @@
 
 ghost use Rattle.std.specs.Prelude.{◌≡◌, ◌++◌, ◌≤◌, ◌<◌, ◌+◌, [], ◌∷◌, All, AllPairs, Some, IsSome, IfOk, OnOk, OnErr, IfSome, MatchOption, length, vec_len, vec_capacity, false, true};
 ghost use Rattle.fs_types.specs.Fragments.{end_of, piece_eq};
+ghost use Rattle.span_list.specs.Spans.{IsSpan};
 ghost use Rattle.piece_table.specs.HeldSpans.{AreHeld, held};
 ghost use Rattle.owner_book.specs.Lookups.{Asks, AsksOne, MayAsk, Pins, is_one_of, parts_in, pieces_named};
 
@@ -11,12 +12,17 @@ use piece_table::HeldSpans;
 use span_list::Spans;
 use std::alloc::Global;
 
-// What of the first fragment with bytes in a range stands there, if any does.
-fn next_part<H: Hold + Drop, S: Spans>(held: &HeldSpans<H, S>, from: u64, to: u64) -> Option<Frag>
+/// What of the first fragment with bytes in a range stands there, if any does.
+pub fn next_part<H: Hold + Drop, S: Spans>(
+    held: &HeldSpans<H, S>,
+    from: u64,
+    to: u64,
+) -> Option<Frag>
     ensures next { MatchOption result (parts_in from to held.now.fragments ≡ [])
         (λ f. parts_in from to held.now.fragments ≡ f ∷ parts_in (end_of f) to held.now.fragments) }
     ensures forward { IfSome result (λ f. from < end_of f) }
     ensures within { IfSome result (λ f. end_of f ≤ to) }
+    ensures span { IfSome result IsSpan }
 {
     let f = held.next(from)?;
     let at = f.at.max(from);

@@ -1,15 +1,18 @@
 //! A file at its owner.
 
-ghost use Rattle.std.specs.Prelude.{◌≡◌, IfOk, IfErr, OnOk, OnErr, IsTrue, All, None, ◌≤◌, ◌+◌};
+ghost use Rattle.std.specs.Prelude.{◌≡◌, ◌≤◌, ◌+◌, [], All, IsTrue, None, length};
+ghost use Rattle.std.specs.Prelude.{IfErr, IfOk, IfSome, OnErr, OnOk, OnSome};
+ghost use Rattle.std.specs.Prelude.{vec_capacity, vec_len};
 ghost use Rattle.std.specs.Borrow.{sem};
 ghost use Rattle.std.specs.Option.{option_copied_mut};
 ghost use Rattle.fs_types.specs.Fragments.{IsWellFormedPush};
 ghost use Rattle.fs_types.specs.declared.limits.TheConstants.{LONGEST_FILE};
 ghost use Rattle.piece_table.specs.HeldSpans.{AreGone, AreHeld};
-ghost use Rattle.owner_book.specs.Commits.{size_after, with_push};
-ghost use Rattle.owner_book.specs.Kept.{AreWithin, attr_of, empty_file, file_of};
+ghost use Rattle.owner_book.specs.Commits.{size_after};
+ghost use Rattle.owner_book.specs.Kept.{AreWithin, attr_of, empty_file, file_of, none_held};
 ghost use Rattle.owner_book.specs.HoldLends.{lends_in_file};
 ghost use Rattle.owner_book.specs.Lookups.{Asks, MayAsk, Pins, parts_in, pieces_named};
+ghost use Rattle.owner_book.specs.Truncations.{file_changed, held_before};
 
 use crate::looked::Found;
 use crate::looking::{parts, pieces, pin_all};
@@ -73,25 +76,66 @@ impl<H: Hold + Drop, S: Spans> OwnedFile<H, S> {
         }
     }
 
-    /// Puts a push over the file, and gives the holds of the pieces of which no byte is left. After
-    /// want of memory the file is as before, and the push is given back.
-    pub fn put(&mut self, alloc: Global, push: Push<H>) -> Result<Vec<H>, (Want, Push<H>)>
+    // An empty list of holds, with room for those of all pieces where the file is to be cut.
+    fn no_dead(&self, alloc: Global, push: &Push<H>, size: Option<u64>) -> Result<Vec<H>, Want>
+        ensures none { IfOk result (λ dead. dead.items ≡ []) }
+        ensures room { IfOk result (λ dead. OnSome size
+            (length self.now.kept.pieces.entries + vec_len push.now.holds ≤ vec_capacity dead)) }
+    {
+        if size.is_none() {
+            return Ok(Vec::new(alloc));
+        }
+        Ok(Vec::with_capacity(alloc, self.held.piece_count() + push.holds.len())?)
+    }
+
+    /// Puts a push over the file, and then cuts or extends it to a size, where one is given. It
+    /// gives the holds of the pieces of which no byte is left. After want of memory the file is as
+    /// before, and the push is given back.
+    pub fn put(
+        &mut self,
+        alloc: Global,
+        push: Push<H>,
+        size: Option<u64>,
+    ) -> Result<Vec<H>, (Want, Push<H>)>
+        requires size { IfSome size (λ n. n ≤ LONGEST_FILE) }
         requires held { AreHeld H.is_ready H.piece H.bytes (file_of self.old).held }
         requires well_formed { IsWellFormedPush H.piece H.bytes push }
         requires ready { All (λ h. IsTrue (H.is_ready h)) push.holds.items }
         requires new_pieces { All (λ h. (file_of self.old).held.hold_of (H.piece h) ≡ None)
             push.holds.items }
-        ensures put { OnOk result (file_of self.new ≡ with_push H.piece push (file_of self.old)) }
-        ensures dead { IfOk result (λ dead. AreGone H.piece (file_of self.old).held
+        ensures put { OnOk result
+            (file_of self.new ≡ file_changed H.piece push size (file_of self.old)) }
+        ensures dead { IfOk result (λ dead. AreGone H.piece
+            (held_before H.piece push size (file_of self.old).held)
             (file_of self.new).held dead.items) }
         ensures given_back { IfErr result (λ e. e.1 ≡ push) }
         ensures same { OnErr result (file_of self.new ≡ file_of self.old) }
         ensures held { AreHeld H.is_ready H.piece H.bytes (file_of self.new).held }
     {
-        let size = size_after(self.size, &push.frags);
-        let mut dead = Vec::new(alloc);
+        let size_put = size_after(self.size, &push.frags);
+        let Ok(mut dead) = self.no_dead(alloc, &push, size) else {
+            return Err((Want, push));
+        };
         self.held.put_push(push, &mut dead)?;
+        let Some(size) = size else {
+            self.size = size_put;
+            return Ok(dead);
+        };
+        self.held.cut(size, &mut dead).unwrap();
         self.size = size;
+        Ok(dead)
+    }
+
+    /// Takes out all fragments, and gives the holds of their pieces. After want of memory the file
+    /// is as before.
+    pub fn clear(&mut self, alloc: Global) -> Result<Vec<H>, Want>
+        requires held { AreHeld H.is_ready H.piece H.bytes (file_of self.old).held }
+        ensures dead { IfOk result (λ dead.
+            AreGone H.piece (file_of self.old).held none_held dead.items) }
+        ensures same { OnErr result (file_of self.new ≡ file_of self.old) }
+    {
+        let mut dead = Vec::new(alloc);
+        self.held.clear(&mut dead)?;
         Ok(dead)
     }
 

@@ -1,13 +1,18 @@
 //! A path at its owner.
 
-ghost use Rattle.std.specs.Prelude.{◌≡◌, ◌+◌, length, None, IfErr, IfOk, IfSome, OnOk, OnErr};
+ghost use Rattle.std.specs.Prelude.{◌≡◌, ◌≤◌, ◌+◌, length, None};
+ghost use Rattle.std.specs.Prelude.{IfErr, IfOk, IfSome, OnErr, OnOk};
 ghost use Rattle.std.specs.Borrow.{sem};
 ghost use Rattle.std.specs.Option.{option_copied_mut};
+ghost use Rattle.fs_types.specs.declared.limits.TheConstants.{LONGEST_FILE};
+ghost use Rattle.piece_table.specs.HeldSpans.{AreGone};
 ghost use Rattle.owner_book.specs.Kept.{AreWithin, held_at, no_path, path_of};
-ghost use Rattle.owner_book.specs.Calls.{AnswersBy, attr, change_refusal, create_refusal, created, opened, version};
-ghost use Rattle.owner_book.specs.Commits.{AreDead, HasHolds, MayCommit, committed};
+ghost use Rattle.owner_book.specs.Calls.{AnswersBy, attr, created, opened, version, without_file};
+ghost use Rattle.owner_book.specs.Calls.{change_refusal, create_refusal, no_file_refusal};
+ghost use Rattle.owner_book.specs.Commits.{AreDead, HasHolds, MayCommit};
 ghost use Rattle.owner_book.specs.HoldLends.{lends_in_path};
-ghost use Rattle.owner_book.specs.Lookups.{Asks, IsLooked, MayAsk, Pins, lookup_refusal, parts_in, pieces_named};
+ghost use Rattle.owner_book.specs.Lookups.{Asks, IsLooked, MayAsk, Pins, parts_in, pieces_named};
+ghost use Rattle.owner_book.specs.Truncations.{changed, held_before};
 
 use crate::book_no::BookNo;
 use crate::committed::Committed;
@@ -107,23 +112,26 @@ impl<H: Hold + Drop, S: Spans + Drop> OwnedPath<H, S> {
         Ok(self.version())
     }
 
-    /// Commits a line that puts a push over the file. After a refusal the path is as before, and the
-    /// push is given back.
-    pub fn commit(
+    /// Commits a line that puts a push over the file, and then cuts or extends it to a size, where
+    /// one is given. After a refusal the path is as before, and the push is given back.
+    pub fn change(
         &mut self,
         alloc: Global,
         line: LineNo,
         push: Push<H>,
+        size: Option<u64>,
     ) -> Result<Committed<H>, (BookNo, Push<H>)>
+        requires size { IfSome size (λ n. n ≤ LONGEST_FILE) }
         requires holds { HasHolds H.is_ready H.piece H.bytes (path_of self.old) }
         requires push { MayCommit H.is_ready H.piece H.bytes push (path_of self.old) }
         ensures answer { AnswersBy (λ e. e.0) (change_refusal (path_of self.old)) result }
         ensures version { IfOk result (λ c. c.v ≡ version (path_of self.new)) }
         ensures attr { IfOk result (λ c. c.attr ≡ attr (path_of self.new)) }
-        ensures committed { OnOk result
-            (path_of self.new ≡ committed H.piece line push (path_of self.old)) }
-        ensures dead { IfOk result (λ c. AreDead H.piece (path_of self.old) (path_of self.new)
-            c.dead.items) }
+        ensures changed { OnOk result
+            (path_of self.new ≡ changed H.piece line push size (path_of self.old)) }
+        ensures dead { IfOk result (λ c. AreGone H.piece
+            (held_before H.piece push size (held_at (path_of self.old)))
+            (held_at (path_of self.new)) c.dead.items) }
         ensures given_back { IfErr result (λ e. e.1 ≡ push) }
         ensures same { OnErr result (path_of self.new ≡ path_of self.old) }
         ensures holds { HasHolds H.is_ready H.piece H.bytes (path_of self.new) }
@@ -138,7 +146,7 @@ impl<H: Hold + Drop, S: Spans + Drop> OwnedPath<H, S> {
         if self.journal.reserve(1).is_err() {
             return Err((BookNo::Want, push));
         }
-        match file.put(alloc, push) {
+        match file.put(alloc, push, size) {
             Ok(dead) => {
                 self.journal.push_reserved(line);
                 Ok(Committed {
@@ -151,10 +159,38 @@ impl<H: Hold + Drop, S: Spans + Drop> OwnedPath<H, S> {
         }
     }
 
+    /// Commits a line that removes the file, and gives the holds of all its pieces. After a refusal
+    /// the path is as before.
+    pub fn unlink(&mut self, alloc: Global, line: LineNo) -> Result<Committed<H>, BookNo>
+        requires holds { HasHolds H.is_ready H.piece H.bytes (path_of self.old) }
+        ensures answer { AnswersBy (λ no. no) (no_file_refusal (path_of self.old)) result }
+        ensures version { IfOk result (λ c. c.v ≡ version (path_of self.new)) }
+        ensures attr { IfOk result (λ c. c.attr ≡ attr (path_of self.new)) }
+        ensures unlinked { OnOk result (path_of self.new ≡ without_file line (path_of self.old)) }
+        ensures dead { IfOk result (λ c. AreDead H.piece (path_of self.old) (path_of self.new)
+            c.dead.items) }
+        ensures same { OnErr result (path_of self.new ≡ path_of self.old) }
+        ensures holds { HasHolds H.is_ready H.piece H.bytes (path_of self.new) }
+    {
+        let version = self.version();
+        let Some(file) = &mut self.file else {
+            return Err(BookNo::NoEnt(version));
+        };
+        self.journal.reserve(1)?;
+        let dead = file.clear(alloc)?;
+        self.journal.push_reserved(line);
+        self.file = None;
+        Ok(Committed {
+            v: self.version(),
+            attr: NO_FILE,
+            dead,
+        })
+    }
+
     /// Looks up a range of the file, and pins the pieces of which bytes stand there.
     pub fn lookup(&mut self, alloc: Global, off: u64, len: u64) -> Result<Looked<H>, BookNo>
         requires holds { HasHolds H.is_ready H.piece H.bytes (path_of self.old) }
-        ensures answer { AnswersBy (λ no. no) (lookup_refusal (path_of self.old)) result }
+        ensures answer { AnswersBy (λ no. no) (no_file_refusal (path_of self.old)) result }
         ensures version { IfOk result (λ found. found.v ≡ version (path_of self.old)) }
         ensures attr { IfOk result (λ found. found.attr ≡ attr (path_of self.old)) }
         ensures frags { IfOk result (λ found. found.frags.items

@@ -76,7 +76,7 @@ fn push_of_two(alloc: Global) -> Result<Push<MemHold>, Fail>
 }
 
 // A book with a file at a path, to which line 11 committed such a push.
-fn book_of_two(alloc: Global, path: &Path) -> Result<Book, Fail>
+pub fn book_of_two(alloc: Global, path: &Path) -> Result<Book, Fail>
     ensures { IfOk result (AllHaveHolds (λ _. true) (λ h. h.piece) (λ h. h.bytes)) }
 {
     let push = push_of_two(alloc)?;

@@ -52,3 +52,14 @@ returns-clause-forward g c =
     let ends = (IsNext-found c.args.from _ _ found).ends_after in
     let span = IsSpan-found c.args.from _ _ c.next.ensures.counted.spans found in
     omega (arith, ends, span.has_bytes, c.max-at.ensures, c.min.ensures)
+
+pub returns-clause-span : goal.returns-clause-span
+returns-clause-span g c =
+    let found = sym c.next.ensures.next ∙ c.in_ok-f.was ∙ ap Some (sym c.f.view_is) in
+    let ends = (IsNext-found c.args.from _ _ found).ends_after in
+    let span = IsSpan-found c.args.from _ _ c.next.ensures.counted.spans found in
+    record {
+      has_bytes = omega (arith, ends, span.has_bytes, c.max-at.ensures, c.min.ensures);
+      in_file = omega (arith, span.in_file, span.has_bytes, c.max-at.ensures, c.min.ensures);
+      in_piece = omega (arith, ends, span.in_piece, c.max-at.ensures, c.min.ensures);
+    }

@@ -19,6 +19,7 @@ returns-in-Err-Want-clause-may_ask g c =
       ready = c.pin.ensures.ready;
       piece = c.pin.ensures.same_piece;
       bytes = c.pin.ensures.same_bytes;
+      place = c.pin.ensures.same_place;
     } in
     becomes-lent (MayBeAsked g.H.Hold) c.args.p h w old new sets was (inr (record { like = like; room = inl c.in-Err-Want.ensures.same_room }))
 
@@ -45,6 +46,7 @@ returns-in-Ok-clause-asks g c =
       ready = c.pin.ensures.ready;
       piece = c.pin.ensures.same_piece;
       bytes = c.pin.ensures.same_bytes;
+      place = c.pin.ensures.same_place;
     } in
     let asks = becomes-lent (IsAsked g.H.Hold) c.args.p h w old new sets was (record { like = like; room = c.in-Ok.ensures.lowered }) in
     let bare = ap (λ o. option_map_or (λ x. is_at_most (g.H.Hold.room x) 0) o false) was in
@@ -53,6 +55,7 @@ returns-in-Ok-clause-asks g c =
       ready = c.in-Ok.ensures.pin_ready;
       piece = c.in-Ok.ensures.pin_piece;
       bytes = c.in-Ok.ensures.pin_bytes;
+      place = c.in-Ok.ensures.pin_place;
     } in
     record {
       asks = asks;
@@ -86,7 +89,7 @@ returns-in-Err-NoRoom-clause-asks g c =
     let sets = (rw c.in-Some.is at c.hold_of.follows.holds) w in
     let full = c.in-Err-NoRoom.ensures.no_room.0 (ap Err c.in-Err-NoRoom.field-0-is) in
     let asks = becomes-lent (IsAsked g.H.Hold) c.args.p h w old new sets was (record {
-      like = record { ready = c.pin.ensures.ready; piece = c.pin.ensures.same_piece; bytes = c.pin.ensures.same_bytes };
+      like = record { ready = c.pin.ensures.ready; piece = c.pin.ensures.same_piece; bytes = c.pin.ensures.same_bytes; place = c.pin.ensures.same_place };
       room = c.in-Err-NoRoom.ensures.same_room ∙ lowered-none (g.H.Hold.room h) full;
     }) in
     let bare = ap (λ o. option_map_or (λ x. is_at_most (g.H.Hold.room x) 0) o false) was in

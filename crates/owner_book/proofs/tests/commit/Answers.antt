@@ -1,6 +1,6 @@
 use Rattle.fs_types.proofs.Common.{true}
 use Rattle.fs_types.specs.declared.mem_hold.MemHold.{MemHold}
-use Rattle.owner_book.specs.Commits.{committed}
+use Rattle.owner_book.specs.Commits.{with_commit}
 use Rattle.owner_book.specs.Kept.{path_in}
 use Rattle.owner_book.proofs.CallerLemmas.{holds-changed, holds-same}
 use Rattle.owner_book.proofs.tests.commit.Goals as goal
@@ -16,7 +16,7 @@ returns-in-Ok c =
     let all = holds-same {H = MemHold} (λ _. true) (λ h. h.piece) (λ h. h.bytes) c.args.book.now between c.hold_of.follows.holds-at-none
     c.requires in
     holds-changed {H = MemHold} (λ _. true) (λ h. h.piece) (λ h. h.bytes) between c.commit.new.self 7 c.args.path.now
-    (committed (λ h. h.piece) c.args.line c.in_ok-push.push (path_in between 7 c.args.path.now)) c.in-Ok.ensures.committed
+    (with_commit (λ h. h.piece) c.args.line c.in_ok-push.push (path_in between 7 c.args.path.now)) c.in-Ok.ensures.committed
     c.in-Ok.ensures.holds all
 
 pub returns-else-len-ne1-2 : goal.returns-else-len-ne1-2

@@ -1,33 +1,23 @@
 use Rattle.fs_types.proofs.Common.{◌∙◌, ap, sym, subst}
 use Rattle.std.specs.Option.{option_copied_mut}
 use Rattle.owner_book.specs.Kept.{path_in, path_of}
-use Rattle.owner_book.specs.Calls.{Changes, created, version}
+use Rattle.owner_book.specs.Calls.{AnswersBy, Changes, create_refusal, created, version}
 use Rattle.owner_book.proofs.Paths.{at-changed, found-none, lent-changed, lent-is, lent-same, IfOk-map, OnErr-map, OnOk-map}
 use Rattle.owner_book.proofs.book.OwnerBook.create.Goals as goal
 
-pub returns-in-Some-clause-version : goal.returns-in-Some-clause-version
-returns-in-Some-clause-version g c =
+pub returns-in-Some : goal.returns-in-Some
+returns-in-Some g c =
     let now = c.create.new.self in
     let lent = lent-is c.args.self.now c.self.inside.files (c.get_mut.follows.lender now) c.args.gfid c.as_bytes-path.result.now c.args.p.now
     c.in-Some.kept.now now c.self.view_is c.as_bytes-path.ensures.bytes
     (sym c.get_mut.ensures.value ∙ ap option_copied_mut c.in-Some.is) (c.get_mut.follows.holds now).3 in
-    IfOk-map c.create.result (λ v e. e ∙ ap version (sym lent.now_is)) c.create.ensures.version
-
-pub returns-in-Some-clause-created : goal.returns-in-Some-clause-created
-returns-in-Some-clause-created g c =
-    let now = c.create.new.self in
-    let lent = lent-is c.args.self.now c.self.inside.files (c.get_mut.follows.lender now) c.args.gfid c.as_bytes-path.result.now c.args.p.now
-    c.in-Some.kept.now now c.self.view_is c.as_bytes-path.ensures.bytes
-    (sym c.get_mut.ensures.value ∙ ap option_copied_mut c.in-Some.is) (c.get_mut.follows.holds now).3 in
-    OnOk-map c.create.result (lent-changed lent (created c.args.line)) c.create.ensures.created
-
-pub returns-in-Some-clause-same : goal.returns-in-Some-clause-same
-returns-in-Some-clause-same g c =
-    let now = c.create.new.self in
-    let lent = lent-is c.args.self.now c.self.inside.files (c.get_mut.follows.lender now) c.args.gfid c.as_bytes-path.result.now c.args.p.now
-    c.in-Some.kept.now now c.self.view_is c.as_bytes-path.ensures.bytes
-    (sym c.get_mut.ensures.value ∙ ap option_copied_mut c.in-Some.is) (c.get_mut.follows.holds now).3 in
-    OnErr-map c.create.result (lent-same lent) c.create.ensures.same
+    let done = c.create.result in
+    record {
+      answer = subst (λ x. AnswersBy (λ no. no) (create_refusal x) done) (sym lent.was_is) c.create.ensures.answer;
+      version = IfOk-map done (λ v e. e ∙ ap version (sym lent.now_is)) c.create.ensures.version;
+      created = OnOk-map done (lent-changed lent (created c.args.line)) c.create.ensures.created;
+      same = OnErr-map done (lent-same lent) c.create.ensures.same;
+    }
 
 pub returns-clause-version : goal.returns-clause-version
 returns-clause-version g c =
