@@ -1,0 +1,4 @@
+pub mod PathMaps
+pub mod CallerLemmas
+pub mod Stands
+mod Cases

@@ -1,0 +1,4 @@
+pub mod Noted
+pub mod PathMap
+pub mod Kept
+pub mod Deeds

@@ -1,0 +1,5 @@
+pub mod WriteParts
+pub mod Paths
+pub mod WriteMarks
+pub mod Standing
+pub mod CallerLemmas

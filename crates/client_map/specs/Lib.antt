@@ -1,0 +1,5 @@
+pub mod Writes
+pub mod Kept
+pub mod Calls
+pub mod HoldLends
+pub mod PendingWrites
