@@ -2,9 +2,10 @@
 # Times `sim 0` on jobs of growing sizes, and prints for each how many microseconds and how many read
 # bytes come to a line, how the time of a line grew from the size before it, and how many MiB of memory
 # the program had at most. A growth of 1.00 is in proportion to the job. The memory is measured by the
-# command /usr/bin/time of GNU; where that isn't there, none is printed. It fails where a line's time
-# grows by more than 1.3 from a job's first size to its second, or where the program has more than 64
-# MiB, or 32 for the largest log.
+# command /usr/bin/time of GNU; where that isn't there, none is printed. Then it times reads of a file
+# of few fragments and of one of many. It fails where a line's time grows by more than 1.3 from a job's
+# first size to its second, where a read of the file of many fragments takes more than 3 times as long
+# as of the other, or where the program has more than 64 MiB, or 32 for the largest log.
 #
 # usage: bench/sim.sh [PROGRAM]     PROGRAM: the program to time, in place of the one built here
 set -eu
@@ -137,6 +138,18 @@ pieces() {
     }'
 }
 
+# A job of one client with a file of so many fragments of 64 bytes, each 64 bytes behind the one before
+# it, and with so many reads, of one fragment each.
+reads() {
+    awk -v fragments="$1" -v reads="$2" 'BEGIN {
+        print "unifyfs 1 servers=1 clients=1 chunk=64 shmem=16384 spill=0"
+        print "0 create /unifyfs/bench"
+        for (k = 0; k < fragments; k++) printf "0 write /unifyfs/bench %d p:%d:64\n", 128 * k, k
+        print "0 sync /unifyfs/bench"
+        for (i = 0; i < reads; i++) printf "0 read /unifyfs/bench %d 64\n", 128 * ((37 * i) % fragments)
+    }'
+}
+
 # A job of five lines with the largest log that a header allows, and three small writes.
 largest_log() {
     echo 'unifyfs 1 servers=1 clients=1 chunk=4096 shmem=65536 spill=0'
@@ -232,6 +245,27 @@ times one_client 1.3 64 1000 2000 4000 8000
 times phases 1.3 64 8000 60000
 times reuse 1.3 64 8000 60000 65010
 times pieces 1.3 64 8000 60600
+
+# Nanoseconds of a read of a file of so many fragments: what the reads add to the job without them.
+nanoseconds_of_a_read() {
+    local fragments=$1 reads=40000 without with
+    reads "$fragments" 0 >"$work/job"
+    without=$(shortest "$work/job")
+    reads "$fragments" "$reads" >"$work/job"
+    with=$(shortest "$work/job")
+    check_report
+    printf '%s' "$(((with - without) * 1000 / reads))"
+}
+
+few=$(nanoseconds_of_a_read 16)
+many=$(nanoseconds_of_a_read 16384)
+printf '\nreads\n%10s %17s\n%10d %17d\n%10d %17d\n' fragments nanoseconds/read 16 "$few" 16384 "$many"
+if [ "$few" -le 0 ]; then
+    echo "sim.sh: reads of the short file took no time that could be measured" >&2
+    exit 1
+fi
+times_as_long=$(awk -v few="$few" -v many="$many" 'BEGIN { printf "%.2f", many / few }')
+hold_to 'the time of a read of 16384 fragments over that of 16' "$times_as_long" 3
 
 largest_log >"$work/job"
 memory=$(peak "$work/job")

@@ -22,7 +22,7 @@ module _ (s : Job) (n : ℕ) (brings : BringsBytes s n) where
   mark_in i = Some (mark_of s.shape.chunk n i)
 
   -- how long a file is then
-  length-line_put : (xs : List (Option Mark)) → length (put_lines s (marks_in s) (n ∷ []) xs) ≡ max (length xs) (offset s n + size)
+  pub length-line_put : (xs : List (Option Mark)) → length (put_lines s (marks_in s) (n ∷ []) xs) ≡ max (length xs) (offset s n + size)
   length-line_put xs =
       let off : ℕ = offset s n in
       let brought : List (Option Mark) = (marks_in s).of_line n in

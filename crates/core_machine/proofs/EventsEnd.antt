@@ -4,8 +4,8 @@ use Rattle.slot_plain.specs.Log.{Log}
 use Rattle.fs_types.specs.declared.answer.Answer.{Answer}
 use Rattle.fs_script.specs.Vocabulary.{Job, asked}
 use Rattle.fs_script.specs.declared.line.Op.{Op}
-use Rattle.core_machine.specs.declared.path_state.ClientPath.{ClientPath}
-use Rattle.core_machine.specs.declared.path_state.OwnedPath.{OwnedPath}
+use Rattle.core_machine.specs.declared.client_path.ClientPath.{ClientPath}
+use Rattle.core_machine.specs.Kept.{OwnedPath}
 use Rattle.core_machine.specs.declared.task.Task.{Task}
 use Rattle.core_machine.specs.declared.task.Task.TheVariants.{Idle, Read}
 use Rattle.core_machine.specs.Event.{Event}

@@ -4,14 +4,15 @@ use Rattle.fs_types.proofs.Common.{nil_from_length, subst, AllByRecursion}
 use Rattle.fs_types.specs.FragmentMarks.{marks_of_fragments}
 use Rattle.fs_script.specs.Vocabulary.{Job, Piece, bears, marks_put}
 use Rattle.piece_table.specs.HeldSpans.{held}
-use Rattle.core_machine.specs.FileSpans.{IsFile, marks_of_file}
+use Rattle.core_machine.specs.BookFiles.{IsFile, marks_of_file}
 use Rattle.core_machine.specs.PendingWrites.{ArePending, BringsBytes, IsNonePending}
-use Rattle.core_machine.specs.declared.file_spans.FileSpans.{FileSpans}
+use Rattle.owner_book.specs.Kept.{BookFile}
+use Rattle.core_machine.specs.declared.plain_hold.PlainHold.{PlainHold}
 use Rattle.core_machine.specs.declared.pending.Pending.{Pending}
 use Rattle.core_machine.proofs.NamedPieces.{is_named-bears}
 
-pub file-bears : (f : FileSpans) (x : Piece) → IsFile f → is_some ((held f.held).hold_of x) ≡ bears (marks_of_file f) x
-file-bears f x file = file.are_held.named x ∙ is_named-bears f.held.fragments f.len x file.are_held.spans file.within
+pub file-bears : (f : BookFile PlainHold) (x : Piece) → IsFile f → is_some (f.held.hold_of x) ≡ bears (marks_of_file f) x
+file-bears f x file = file.are_held.named x ∙ is_named-bears f.held.fragments f.size x file.are_held.spans file.within
 
 pub pending-bears : (s : Job) (q : Pending) (x : Piece) → ArePending s q
     → is_some ((held q.held).hold_of x) ≡ bears (marks_put s q.lines.items) x

@@ -1,5 +1,5 @@
 -- Events that put nothing into slots: the logs follow, where what is kept holds the same pieces, and where some holds were let go of.
-use Rattle.fs_types.proofs.Common.{◌≡◌, ℕ, ◌+◌, ◌==◌, ◌||◌, true, false, List, Some, is_some, cond}
+use Rattle.fs_types.proofs.Common.{◌≡◌, ℕ, ◌+◌, ◌==◌, ◌||◌, ◌++◌, [], true, false, List, Some, is_some, cond}
 use Rattle.fs_types.proofs.Common.{Contains, refl, sym, ap, ◌∙◌, ◌⊎◌, inl, inr, none-some}
 use Rattle.fs_types.proofs.Common.{and_from, eq-eqb}
 use Rattle.std.specs.List.{AllPairs}
@@ -7,8 +7,8 @@ use Rattle.std.proofs.Math.Bool.{or-true}
 use Rattle.fs_types.specs.Fragments.{piece_eq}
 use Rattle.slot_plain.specs.Log.{Log}
 use Rattle.fs_script.specs.Vocabulary.{Job, Piece}
-use Rattle.core_machine.specs.declared.path_state.ClientPath.{ClientPath}
-use Rattle.core_machine.specs.declared.path_state.OwnedPath.{OwnedPath}
+use Rattle.core_machine.specs.declared.client_path.ClientPath.{ClientPath}
+use Rattle.core_machine.specs.Kept.{OwnedPath}
 use Rattle.core_machine.specs.declared.plain_hold.PlainHold.{PlainHold}
 use Rattle.core_machine.specs.declared.task.Task.TheVariants.{Idle}
 use Rattle.core_machine.specs.Follows.{EventKept, KeepsHolds, KeptStand, LogsSettle}
@@ -38,7 +38,7 @@ settle-same s n r x y k l logs same stand are_held = record {
     fill = refl;
     settles = Settles-agree (holds_kept x k Idle) (holds_kept x k Idle) (holds_kept x k Idle) (holds_kept y l Idle) logs logs (λ q. refl)
         (λ q. same_count y x l k q (ap (λ h. is_some h || is_some (pending_hold l q)) (same.files q)
-        ∙ ap (λ h. is_some (file_hold x.file q) || is_some h) (same.pending q)))
+        ∙ ap (λ h. is_some (file_hold x.path.file q) || is_some h) (same.pending q)))
         (Settles-same (holds_kept x k Idle) logs are_held);
   };
   stand = record {
@@ -50,33 +50,42 @@ settle-same s n r x y k l logs same stand are_held = record {
 
 -- ---- holds that were let go of
 
+-- holds of slots that have their pieces, no two of one piece, where no piece is in two slots
+pub in-slots : (s : Job) (logs : List Log) (gone : List PlainHold) → ((h : PlainHold) → Contains gone h → IsHeldIn s logs h)
+    → AreInOneSlot logs → AllPairs (λ g h. piece_eq g.piece h.piece ≡ false) gone → AreInSlots s logs gone
+in-slots s logs gone held once apart = record {
+  held = held;
+  there = λ r i p h has is_gone same.
+      let at = once h.rank h.slot r i (stored_part s h.piece) p (held h is_gone).piece has same in
+      and_from (h.rank == r) (h.slot == i) (eq-eqb h.rank r at.0) (eq-eqb h.slot i at.1);
+  once = apart;
+}
+
+-- what a list of holds that was empty has in the end is what was handed over
+pub all_gone : (before after dead gone : List PlainHold) → before ≡ [] → after ≡ before ++ gone → dead ≡ after → gone ≡ dead
+all_gone before after dead gone none appended same = ap (λ xs. xs ++ gone) (sym none) ∙ sym appended ∙ sym same
+
 -- of what is kept these holds went, and every other piece is kept as before
 pub record LeavesKept (x y : OwnedPath) (k l : ClientPath) (gone : List PlainHold) : Type 0 where
-  pub kept : (h : PlainHold) → Contains gone h → (file_hold x.file h.piece ≡ Some h) ⊎ (pending_hold k h.piece ≡ Some h)
+  pub kept : (h : PlainHold) → Contains gone h → (file_hold x.path.file h.piece ≡ Some h) ⊎ (pending_hold k h.piece ≡ Some h)
   pub no_more : (h : PlainHold) → Contains gone h → keeps y l h.piece ≡ false
   pub others : (q : Piece) → ((h : PlainHold) → Contains gone h → h.piece ≡ q → ⊥) → keeps x k q ≡ keeps y l q
   pub once : AllPairs (λ g h. piece_eq g.piece h.piece ≡ false) gone
-  pub files : (q : Piece) (h : PlainHold) → file_hold y.file q ≡ Some h → (file_hold x.file q ≡ Some h) ⊎ (pending_hold k q ≡ Some h)
-  pub pending : (q : Piece) (h : PlainHold) → pending_hold l q ≡ Some h → (file_hold x.file q ≡ Some h) ⊎ (pending_hold k q ≡ Some h)
+  pub files : (q : Piece) (h : PlainHold) → file_hold y.path.file q ≡ Some h → (file_hold x.path.file q ≡ Some h) ⊎ (pending_hold k q ≡ Some h)
+  pub pending : (q : Piece) (h : PlainHold) → pending_hold l q ≡ Some h → (file_hold x.path.file q ≡ Some h) ⊎ (pending_hold k q ≡ Some h)
 
 module _ (s : Job) (x : OwnedPath) (k : ClientPath) (logs : List Log) (stand : KeptStand s logs x k Idle) where
-  stands : (q : Piece) (h : PlainHold) → (file_hold x.file q ≡ Some h) ⊎ (pending_hold k q ≡ Some h) → (h.piece ≡ q) × IsHeldIn s logs h
+  pub stands : (q : Piece) (h : PlainHold) → (file_hold x.path.file q ≡ Some h) ⊎ (pending_hold k q ≡ Some h) → (h.piece ≡ q) × IsHeldIn s logs h
   stands q h (inl is) = stand.files q h is
   stands q h (inr is) = stand.pending q h is
 
-  was_kept : (q : Piece) (h : PlainHold) → (file_hold x.file q ≡ Some h) ⊎ (pending_hold k q ≡ Some h) → keeps x k q ≡ true
+  was_kept : (q : Piece) (h : PlainHold) → (file_hold x.path.file q ≡ Some h) ⊎ (pending_hold k q ≡ Some h) → keeps x k q ≡ true
   was_kept q h (inl is) = ap (λ o. is_some o || is_some (pending_hold k q)) is
-  was_kept q h (inr is) = ap (λ o. is_some (file_hold x.file q) || is_some o) is ∙ or-true (is_some (file_hold x.file q))
+  was_kept q h (inr is) = ap (λ o. is_some (file_hold x.path.file q) || is_some o) is ∙ or-true (is_some (file_hold x.path.file q))
 
   module _ (y : OwnedPath) (l : ClientPath) (gone : List PlainHold) (once : AreInOneSlot logs) (leaves : LeavesKept x y k l gone) where
     pub slots-gone : AreInSlots s logs gone
-    slots-gone = record {
-      held = λ h is_gone. (stands h.piece h (leaves.kept h is_gone)).1;
-      there = λ r i p h has is_gone same.
-          let at = once h.rank h.slot r i (stored_part s h.piece) p (stands h.piece h (leaves.kept h is_gone)).1.piece has same in
-          and_from (h.rank == r) (h.slot == i) (eq-eqb h.rank r at.0) (eq-eqb h.slot i at.1);
-      once = leaves.once;
-    }
+    slots-gone = in-slots s logs gone (λ h is_gone. (stands h.piece h (leaves.kept h is_gone)).1) once leaves.once
 
     pub settle-gone : (n r : ℕ) (new : List Log) → AreHeldSlots logs → ReleasesAll gone logs new
         → LogsSettle s n r false (idle_kept x k logs) (idle_kept y l new)

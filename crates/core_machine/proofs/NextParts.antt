@@ -4,7 +4,7 @@ use Rattle.fs_types.specs.Fragments.{end_of}
 use Rattle.fs_script.specs.Vocabulary.{Fragment, Mark}
 use Rattle.span_list.specs.Spans.{AreSpans, IsSpan, next_fragment}
 use Rattle.span_list.proofs.CallerLemmas.{IsNext-found, IsSpan-found, mark_at-before_next, mark_at-in_next}
-use Rattle.core_machine.specs.FileSpans.{IsFirstPart}
+use Rattle.core_machine.proofs.ReadRuns.{IsFirstPart}
 
 -- where it begins in a range
 abbrev pub begin_in : ℕ → Fragment → ℕ

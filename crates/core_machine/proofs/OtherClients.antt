@@ -3,14 +3,14 @@
 use Rattle.fs_types.proofs.Common.{◌≡◌, ◌≢◌, ◌∙◌, ℕ, List, [], Option, Some, ap, sym, slice_get, same_Some}
 use Rattle.fs_script.proofs.CallerLemmas.{slice_get-set_other}
 use Rattle.slot_plain.specs.Log.{Log}
-use Rattle.core_machine.specs.Follows.{Finds, FollowsAt}
+use Rattle.core_machine.specs.Follows.{FollowsAt}
 use Rattle.core_machine.specs.Kept.{pending_lines}
-use Rattle.core_machine.specs.Vocabulary.{ClientPath, OwnedPath, Task, Op}
+use Rattle.core_machine.specs.Vocabulary.{Board, Book, ClientPath, PlainHold, Task, Op}
 use Rattle.fs_script.specs.Vocabulary.{Answer, Job}
 
-module _ {O : Type 0} {find : Finds O} {change : O → O → OwnedPath → Type 0} {s : Job} {n : ℕ} {op : Op} {r : ℕ} {owners owners' : O}
+module _ {p : List ℕ} {s : Job} {n : ℕ} {op : Op} {r : ℕ} {books books' : List (Book PlainHold)} {board board' : Board}
     {clients clients' : List ClientPath} {tasks tasks' : List Task} {logs logs' : List Log} {a : Option Answer}
-    (event : FollowsAt find change s n op r owners owners' clients clients' tasks tasks' logs logs' a) (q : ℕ) (other : q ≢ r) where
+    (event : FollowsAt p s n op r books books' board board' clients clients' tasks tasks' logs logs' a) (q : ℕ) (other : q ≢ r) where
   pub kept_by_others : slice_get clients' q ≡ slice_get clients q
   kept_by_others = ap (λ xs. slice_get xs q) event.changed ∙ slice_get-set_other clients r q event.now.client other
 

@@ -1,32 +1,32 @@
 -- The events of a read, as the machine has them over what is kept.
-use Rattle.fs_types.proofs.Common.{◌≡◌, ℕ, ◌+◌, ◌<◌, ◌≤◌, ◌∙◌, List, Option, Some, None, true, false, arith, sym, ap, refl, subst, max}
+use Rattle.fs_types.proofs.Common.{◌≡◌, ℕ, ◌+◌, ◌<◌, ◌≤◌, ◌∙◌, List, Option, Some, None, Bool, true, false, arith, sym, ap, refl, subst, max}
 use Rattle.fs_types.proofs.Common.{if◌then◌else◌, length, is_some, cond_both, cond-true, cond-false}
 use Rattle.fs_types.proofs.Common.{lt-ltb, le-ltb, nat_le, nat_lt, nat_tests, or_left, none-some}
 use Rattle.piece_table.specs.PieceTable.{Pieces, hold_of}
 use Rattle.std.proofs.lemmas.List.{take_all}
 use Rattle.fs_types.specs.Pieces.{Fragment}
 use Rattle.slot_plain.specs.Log.{Log}
-use Rattle.fs_script.specs.Vocabulary.{Answer, Job, Piece, at_least, runs, version_of}
+use Rattle.fs_script.specs.Vocabulary.{Answer, Job, Piece, Range, at_least, marks_in, range_of, runs, shown, version_of, view_of}
 use Rattle.fs_script.specs.declared.line.Op.TheVariants as ops
 use Rattle.fs_types.specs.declared.answer.Answer.TheVariants as answers
-use Rattle.core_machine.specs.declared.file_spans.FileSpans.{FileSpans}
+use Rattle.owner_book.specs.Kept.{BookFile}
 use Rattle.core_machine.specs.declared.noted.Noted.{Noted}
-use Rattle.core_machine.specs.declared.path_state.ClientPath.{ClientPath}
-use Rattle.core_machine.specs.declared.path_state.OwnedPath.{OwnedPath}
+use Rattle.core_machine.specs.declared.client_path.ClientPath.{ClientPath}
+use Rattle.core_machine.specs.Kept.{OwnedPath}
 use Rattle.core_machine.specs.declared.plain_hold.PlainHold.{PlainHold}
 use Rattle.core_machine.specs.declared.task.ReadTask.{ReadTask}
 use Rattle.core_machine.specs.declared.task.Task.{Task}
 use Rattle.core_machine.specs.declared.task.Task.TheVariants.{Idle, Read}
 use Rattle.core_machine.specs.Doing.{Reading, reading}
-use Rattle.core_machine.specs.Event.{Event, Known, answered, goes_on_reading}
+use Rattle.core_machine.specs.Event.{Event, Known, PathNow, answered, goes_on_reading}
 use Rattle.core_machine.specs.Events.Read.{lookup_over, shows}
 use Rattle.core_machine.specs.Fetching.{HasBytes}
 use Rattle.core_machine.specs.Follows.{EventFollows, EventKept, Follows, Knows, KnowsLookedUp, KeptStand, LookedUpWithin, free_in, kept_event}
 use Rattle.core_machine.specs.HoldsKept.{holds_kept, keeps}
-use Rattle.core_machine.specs.Kept.{file_hold, file_marks, kept_now, known_from, later_of}
+use Rattle.core_machine.specs.Kept.{file_hold, file_marks, kept_now, known_from, later_of, pending_lines}
 use Rattle.core_machine.specs.Logs.{AreHeldSlots, HoldsStand, stored_part}
 use Rattle.core_machine.specs.Pins.{HaveSlots, no_count, pin_count}
-use Rattle.core_machine.specs.Reads.{BeginsRead}
+use Rattle.core_machine.specs.Reads.{BeginsRead, marks_seen}
 use Rattle.core_machine.specs.Settling.{Settles}
 use Rattle.core_machine.specs.Task.{IsReadTask, doing_of, marks_of_task, reading_of}
 use Rattle.core_machine.proofs.FetchedBytes.{HasBytes-whole}
@@ -37,8 +37,8 @@ use Rattle.core_machine.proofs.SettledSlots.{Settles-agree, Settles-more, Settle
 -- what is noted of an answer's version is the later of both, and says what is so of it
 pub record Notes (x : OwnedPath) (k : ClientPath) (t : Task) (a : Answer) (m : Noted) : Type 0 where
   pub version : m.version ≡ at_least k.noted.version (version_of a)
-  pub within : k.noted.version ≤ length x.journal.items → x.board.version ≤ length x.journal.items
-      → LookedUpWithin t (length x.journal.items) → m.version ≤ length x.journal.items
+  pub within : k.noted.version ≤ length x.path.journal → x.board.told.version ≤ length x.path.journal
+      → LookedUpWithin t (length x.path.journal) → m.version ≤ length x.path.journal
   pub known : (at : ℕ → Known) → Knows at x k → KnowsLookedUp at t → known_from m ≡ at m.version
 
 later-version : (a b : Noted) → (later_of a b).version ≡ max b.version a.version
@@ -49,11 +49,11 @@ module _ (x : OwnedPath) (k : ClientPath) where
   Notes-closed = record { version = refl; within = λ noted board looked_up. noted; known = λ at knows looked_up. knows.noted }
 
   -- the version now, at which there is no file
-  pub Notes-absent : x.file ≡ None → Notes x k Idle (answers.NoEnt (length x.journal.items))
-      (later_of (record { version = length x.journal.items; exists = false }) k.noted)
-  Notes-absent absent = let now : Noted = record { version = length x.journal.items; exists = false } in record {
+  pub Notes-absent : x.path.file ≡ None → Notes x k Idle (answers.NoEnt (length x.path.journal))
+      (later_of (record { version = length x.path.journal; exists = false }) k.noted)
+  Notes-absent absent = let now : Noted = record { version = length x.path.journal; exists = false } in record {
     version = later-version now k.noted;
-    within = λ noted board looked_up. cond_both (nat_le k.noted.version now.version) now k.noted (λ m. m.version ≤ length x.journal.items)
+    within = λ noted board looked_up. cond_both (nat_le k.noted.version now.version) now k.noted (λ m. m.version ≤ length x.path.journal)
         (λ _. omega arith) (λ _. noted);
     known = λ at knows looked_up. cond_both (nat_le k.noted.version now.version) now k.noted (λ m. known_from m ≡ at m.version)
         (λ _. rw absent at knows.now) (λ _. knows.noted);
@@ -64,7 +64,7 @@ module _ (x : OwnedPath) (k : ClientPath) where
       (later_of (record { version = t.version; exists = true }) k.noted)
   Notes-shown t bytes = let seen : Noted = record { version = t.version; exists = true } in record {
     version = later-version seen k.noted;
-    within = λ noted board looked_up. cond_both (nat_le k.noted.version seen.version) seen k.noted (λ m. m.version ≤ length x.journal.items)
+    within = λ noted board looked_up. cond_both (nat_le k.noted.version seen.version) seen k.noted (λ m. m.version ≤ length x.path.journal)
         (λ _. looked_up) (λ _. noted);
     known = λ at knows looked_up. cond_both (nat_le k.noted.version seen.version) seen k.noted (λ m. known_from m ≡ at m.version)
         (λ _. looked_up) (λ _. knows.noted);
@@ -76,24 +76,24 @@ module _ (x : OwnedPath) (k : ClientPath) where
 abbrev pub kept : OwnedPath → ClientPath → Task → List Log → EventKept
 kept x k t logs = record { owned = x; client = k; task = t; logs = logs }
 
-module _ (s : Job) (n r off len : ℕ) (x : OwnedPath) (k : ClientPath) (t : Task) (old new : List Log) where
+module _ (s : Job) (n r off len : ℕ) (own : Bool) (x : OwnedPath) (k : ClientPath) (t : Task) (old new : List Log) where
   -- the line ends with an answer
-  pub ends : (a : Answer) (m : Noted) → kept_event s x k (free_in old r) t (ops.Read off len) ≡ answered a → Notes x k t a m
+  pub ends : (a : Answer) (m : Noted) → kept_event s x k (free_in old r) t (ops.Read off len own) ≡ answered a → Notes x k t a m
       → Settles (holds_kept x k t) (holds_kept x k Idle) old new → KeptStand s old x k t
-      → EventFollows s n (ops.Read off len) r (kept x k t old) (kept x (record k { noted = m }) Idle new) (Some a)
+      → EventFollows s n (ops.Read off len own) r (kept x k t old) (kept x (record k { noted = m }) Idle new) (Some a)
   ends a m is notes settles stand =
-      let event : Event = kept_event s x k (free_in old r) t (ops.Read off len) in
+      let event : Event = kept_event s x k (free_in old r) t (ops.Read off len own) in
       let l : ClientPath = record k { noted = m } in
-      let follows : Follows s n (ops.Read off len) t (answered a) x k x l a = record {
+      let follows : Follows s n (ops.Read off len own) t (answered a) x k x l a = record {
         journal = refl;
         marks = refl;
-        board = refl;
+        told = refl;
         opened = refl;
         pending = refl;
         version = notes.version;
         within = notes.within;
         known = λ at knows looked_up. notes.known at (record { noted = knows.noted; board = knows.board; now = knows.now }) looked_up;
-        owned = λ q there. or_left (is_some (file_hold x.file q)) _ there;
+        owned = λ q there. or_left (is_some (file_hold x.path.file q)) _ there;
         pieces = λ q there. or_left _ false there;
       } in
       record {
@@ -101,7 +101,7 @@ module _ (s : Job) (n r off len : ℕ) (x : OwnedPath) (k : ClientPath) (t : Tas
         is = refl;
         answer = ap (λ (e : Event). e.answer) is;
         doing = ap (λ (e : Event). e.doing) is;
-        kept = subst (λ (e : Event). Follows s n (ops.Read off len) t e x k x l a) (sym is) follows;
+        kept = subst (λ (e : Event). Follows s n (ops.Read off len own) t e x k x l a) (sym is) follows;
         settles = record {
           logs = record { filled = old; fill = rw (ap (λ (e : Event). e.fills) is) refl; settles = rw (ap (λ (e : Event). e.fills) is) settles };
           stand = record { files = stand.files; pending = stand.pending; pins = λ q h none. absurd (none-some h none) };
@@ -109,12 +109,12 @@ module _ (s : Job) (n r off len : ℕ) (x : OwnedPath) (k : ClientPath) (t : Tas
       }
 
   -- the line goes on
-  pub goes_on : (d : Reading) (t' : Task) → kept_event s x k (free_in old r) t (ops.Read off len) ≡ goes_on_reading d
+  pub goes_on : (d : Reading) (t' : Task) → kept_event s x k (free_in old r) t (ops.Read off len own) ≡ goes_on_reading d
       → reading d ≡ doing_of t' → Settles (holds_kept x k t) (holds_kept x k t') old new → KeptStand s old x k t'
-      → EventFollows s n (ops.Read off len) r (kept x k t old) (kept x k t' new) None
+      → EventFollows s n (ops.Read off len own) r (kept x k t old) (kept x k t' new) None
   goes_on d t' is doing settles stand =
       record {
-        event = kept_event s x k (free_in old r) t (ops.Read off len);
+        event = kept_event s x k (free_in old r) t (ops.Read off len own);
         is = refl;
         answer = ap (λ (e : Event). e.answer) is;
         doing = ap (λ (e : Event). e.doing) is ∙ doing;
@@ -132,48 +132,65 @@ module _ (s : Job) (n r off len : ℕ) (x : OwnedPath) (k : ClientPath) (t : Tas
 
 -- ---- the events
 
-module _ (s : Job) (n r off len : ℕ) (x : OwnedPath) (k : ClientPath) (old new : List Log) where
+module _ (s : Job) (n r off len : ℕ) (own : Bool) (x : OwnedPath) (k : ClientPath) (old new : List Log) where
+  abbrev seen_now : PathNow
+  seen_now = kept_now s x k (free_in old r)
+
+  abbrev asks : Range
+  asks = range_of off len own
+
+  -- where there is no file, no pending writes are seen either
+  nothing-found : (b : Bool) → lookup_over seen_now (view_of s (marks_in s) b (pending_lines k) None) asks
+      ≡ answered (answers.NoEnt (length x.path.journal))
+  nothing-found true = refl
+  nothing-found false = refl
+
+  -- of a file that is there its marks are seen, alone or with the pending lines over them
+  looked-up : (f : BookFile PlainHold) (b : Bool) → lookup_over seen_now (view_of s (marks_in s) b (pending_lines k) (file_marks (Some f))) asks
+      ≡ goes_on_reading (record { version = length x.path.journal; marks = shown (marks_seen s b (pending_lines k) f) off len; fetched = 0 })
+  looked-up f true = refl
+  looked-up f false = refl
+
   -- the path isn't open
   pub EventFollows-closed : k.is_open ≡ false → AreHeldSlots old → KeptStand s old x k Idle
-      → EventFollows s n (ops.Read off len) r (kept x k Idle old) (kept x k Idle old) (Some answers.BadF)
+      → EventFollows s n (ops.Read off len own) r (kept x k Idle old) (kept x k Idle old) (Some answers.BadF)
   EventFollows-closed closed held stand =
-      ends s n r off len x k Idle old old answers.BadF k.noted (cond-false k.is_open _ _ closed) (Notes-closed x k)
+      ends s n r off len own x k Idle old old answers.BadF k.noted (cond-false k.is_open _ _ closed) (Notes-closed x k)
       (Settles-same (holds_kept x k Idle) old held) stand
 
   -- there is no file
-  pub EventFollows-absent : k.is_open ≡ true → x.file ≡ None → AreHeldSlots old → KeptStand s old x k Idle
-      → EventFollows s n (ops.Read off len) r (kept x k Idle old)
-      (kept x (record k { noted = later_of (record { version = length x.journal.items; exists = false }) k.noted }) Idle old)
-      (Some (answers.NoEnt (length x.journal.items)))
+  pub EventFollows-absent : k.is_open ≡ true → x.path.file ≡ None → AreHeldSlots old → KeptStand s old x k Idle
+      → EventFollows s n (ops.Read off len own) r (kept x k Idle old)
+      (kept x (record k { noted = later_of (record { version = length x.path.journal; exists = false }) k.noted }) Idle old)
+      (Some (answers.NoEnt (length x.path.journal)))
   EventFollows-absent is_open absent held stand =
-      ends s n r off len x k Idle old old (answers.NoEnt (length x.journal.items)) _
+      ends s n r off len own x k Idle old old (answers.NoEnt (length x.path.journal)) _
       (cond-true k.is_open _ _ is_open
-      ∙ ap (λ (f : Option FileSpans). lookup_over (kept_now s x k (free_in old r)) (file_marks f) (record { off = off; len = len })) absent)
+      ∙ ap (λ (f : Option (BookFile PlainHold)). lookup_over seen_now (view_of s (marks_in s) own (pending_lines k) (file_marks f)) asks) absent
+      ∙ nothing-found own)
       (Notes-absent x k absent) (Settles-same (holds_kept x k Idle) old held) stand
 
-  -- a read begins
-  pub EventFollows-begun : (f : FileSpans) (t : ReadTask) → k.is_open ≡ true → x.file ≡ Some f → KeptStand s old x k Idle
-      → BeginsRead s f (length x.journal.items) off len t old new
-      → EventFollows s n (ops.Read off len) r (kept x k Idle old) (kept x k (Read t) new) None
-  EventFollows-begun f t is_open there stand begins =
-      goes_on s n r off len x k Idle old new _ (Read t)
+  -- a read begins, by holds each of which is of a slot that has its piece
+  pub EventFollows-begun : (f : BookFile PlainHold) (hold_at : Piece → Option PlainHold) (t : ReadTask) → k.is_open ≡ true
+      → x.path.file ≡ Some f → KeptStand s old x k Idle → HoldsStand s old hold_at
+      → BeginsRead s (shown (marks_seen s own (pending_lines k) f) off len) (length x.path.journal) hold_at t old new
+      → EventFollows s n (ops.Read off len own) r (kept x k Idle old) (kept x k (Read t) new) None
+  EventFollows-begun f hold_at t is_open there stand holds begins =
+      goes_on s n r off len own x k Idle old new _ (Read t)
       (cond-true k.is_open _ _ is_open
-      ∙ ap (λ (g : Option FileSpans). lookup_over (kept_now s x k (free_in old r)) (file_marks g) (record { off = off; len = len })) there)
+      ∙ ap (λ (g : Option (BookFile PlainHold)). lookup_over seen_now (view_of s (marks_in s) own (pending_lines k) (file_marks g)) asks) there
+      ∙ looked-up f own)
       (ap reading (sym begins.reading))
       (Settles-more (λ q. if keeps x k q then 1 else 0) no_count (pin_count t.pins) old new begins.slots)
-      (record {
-        files = stand.files;
-        pending = stand.pending;
-        pins = λ q h is. stand.files q h (ap (λ (g : Option FileSpans). file_hold g q) there ∙ begins.holds q h is);
-      })
+      (record { files = stand.files; pending = stand.pending; pins = λ q h is. holds q h (begins.holds q h is) })
 
   module _ (t : ReadTask) (task : IsReadTask s t) (stand : KeptStand s old x k (Read t)) where
     -- one run more is fetched
     pub EventFollows-fetched : (t' : ReadTask) → t.fetched < length t.runs.items
         → reading_of t' ≡ record (reading_of t) { fetched = t.fetched + 1 } → t'.pins ≡ t.pins → AreHeldSlots old
-        → EventFollows s n (ops.Read off len) r (kept x k (Read t) old) (kept x k (Read t') old) None
+        → EventFollows s n (ops.Read off len own) r (kept x k (Read t) old) (kept x k (Read t') old) None
     EventFollows-fetched t' left is pins held =
-        goes_on s n r off len x k (Read t) old old _ (Read t')
+        goes_on s n r off len own x k (Read t) old old _ (Read t')
         (cond-true (nat_lt t.fetched (length (runs (marks_of_task t)))) _ _ (rw task.runs_are (lt-ltb t.fetched (length t.runs.items) left)))
         (ap reading (sym is))
         (Settles-agree (holds_kept x k (Read t)) (holds_kept x k (Read t)) (holds_kept x k (Read t)) (holds_kept x k (Read t')) old old
@@ -187,11 +204,11 @@ module _ (s : Job) (n r off len : ℕ) (x : OwnedPath) (k : ClientPath) (old new
 
     -- all runs were fetched, and the bytes are shown
     pub EventFollows-shown : length t.runs.items ≤ t.fetched → Settles (pin_count t.pins) no_count old new
-        → EventFollows s n (ops.Read off len) r (kept x k (Read t) old)
+        → EventFollows s n (ops.Read off len own) r (kept x k (Read t) old)
         (kept x (record k { noted = later_of (record { version = t.version; exists = true }) k.noted }) Idle new)
         (Some (shows t.version t.bytes.items))
     EventFollows-shown all settles =
-        ends s n r off len x k (Read t) old new (shows t.version t.bytes.items) _
+        ends s n r off len own x k (Read t) old new (shows t.version t.bytes.items) _
         (cond-false (nat_lt t.fetched (length (runs (marks_of_task t)))) _ _ (rw task.runs_are (le-ltb t.fetched (length t.runs.items) all))
         ∙ ap (λ (bytes : List ℕ). answered (shows t.version bytes))
         (sym (HasBytes-whole s t.runs.items t.bytes.items (subst (λ (fs : List Fragment). HasBytes s fs t.bytes.items)
@@ -204,3 +221,9 @@ pub HaveSlots-stand : (s : Job) (logs : List Log) (hold_at : Piece → Option Pl
 HaveSlots-stand s logs hold_at stand q h is =
     let one = stand q h is in
     record { held = one.1.count; stored = stored_part s h.piece; piece = one.1.piece; id = one.0 }
+
+-- the same by a path's file
+pub HaveSlots-file : (s : Job) (logs : List Log) (file : Option (BookFile PlainHold)) (f : BookFile PlainHold) → file ≡ Some f
+    → HoldsStand s logs (file_hold file) → HaveSlots logs f.held.hold_of
+HaveSlots-file s logs file f is stand =
+    HaveSlots-stand s logs f.held.hold_of (subst (λ (o : Option (BookFile PlainHold)). HoldsStand s logs (file_hold o)) is stand)

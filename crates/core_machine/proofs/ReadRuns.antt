@@ -6,12 +6,11 @@ use Rattle.fs_types.proofs.Common.{and_from, eq-eqb, min, drop, get_or-take, get
 use Rattle.fs_types.proofs.CallerLemmas.{length-shown}
 use Rattle.std.proofs.lemmas.List.{ext_get_or}
 use Rattle.fs_types.specs.Fragments.{piece_eq, end_of}
-use Rattle.fs_types.specs.FragmentMarks.{mark_at, marks_of_fragments}
+use Rattle.fs_types.specs.FragmentMarks.{mark_at, mark_within, marks_of_fragments}
 use Rattle.fs_script.specs.Vocabulary.{Fragment, Mark, Piece, goes_on, runs, shown}
 use Rattle.fs_script.specs.Runs.{byte_run, with_run, runs_from}
 use Rattle.fs_script.proofs.RunsOfMarks.{GoesOn, GoesOn-from}
 use Rattle.fs_script.proofs.PiecesOnce.{piece_eq_equiv}
-use Rattle.core_machine.specs.FileSpans.{IsFirstPart}
 use Rattle.core_machine.specs.ReadRuns.{joined, with_last}
 
 -- ---- runs that go on
@@ -138,6 +137,14 @@ runs_to-run fs off n l place x marks =
     ap runs (cells-append fs off n (suc l))
     ∙ runs_from-run 0 (cells fs off n) (cells fs (off + n) (suc l)) (run_of n (suc l) x place)
     (run_cells fs (0 + length (cells fs off n)) (off + n) l place x marks ∙ ap (λ at. run_of at (suc l) x place ∷ []) size)
+
+-- what a range has of its first fragment there: before it no fragment has a mark
+pub record IsFirstPart (from to : ℕ) (fs : List Fragment) (f : Fragment) : Type 0 where
+  pub some : 0 < f.len
+  pub begin : from ≤ f.at
+  pub end : end_of f ≤ to
+  pub blank : (k : ℕ) → from ≤ k → k < f.at → mark_at fs k ≡ None
+  pub marks : (k : ℕ) → f.at ≤ k → k < end_of f → mark_at fs k ≡ Some (mark_within f k)
 
 -- a part of a fragment adds one run, as its marks stand there and none before it
 pub runs_to-part : (fs : List Fragment) (off from to : ℕ) (f : Fragment) → off ≤ from → IsFirstPart from to fs f

@@ -5,45 +5,40 @@ use Rattle.fs_types.proofs.Common.{if◌then◌else◌, replicate, slice_index, 
 use Rattle.fs_types.specs.Fragments.{end_of}
 use Rattle.fs_types.specs.FragmentMarks.{is_within, mark_at, mark_within, marks_of_fragments}
 use Rattle.fs_types.specs.Marks.{Mark}
-use Rattle.fs_types.specs.Pieces.{Fragment}
-use Rattle.piece_table.specs.HeldSpans.{held}
-use Rattle.piece_table.specs.PieceTable.{hold_of}
+use Rattle.fs_types.specs.Pieces.{Fragment, Piece}
+use Rattle.owner_book.specs.declared.looked.Looked.{Looked}
 use Rattle.slot_plain.specs.Log.{Log}
-use Rattle.fs_script.specs.Vocabulary.{Job, marked_byte, runs, shown}
+use Rattle.fs_script.specs.Vocabulary.{Job, marked_byte, runs}
 use Rattle.fs_script.proofs.CallerLemmas.{end-runs, in_order-runs}
-use Rattle.core_machine.specs.declared.file_spans.FileSpans.{FileSpans}
+use Rattle.core_machine.specs.declared.plain_hold.PlainHold.{PlainHold}
 use Rattle.core_machine.specs.declared.task.ReadTask.{ReadTask}
 use Rattle.core_machine.specs.Fetching.{AreFetchable, HasBytes}
-use Rattle.core_machine.specs.FileSpans.{marks_of_file}
 use Rattle.core_machine.specs.Pins.{ArePins, no_count}
-use Rattle.core_machine.specs.PlainHolds.{AreHeldPlain}
-use Rattle.core_machine.specs.Reads.{BeginsRead}
+use Rattle.core_machine.specs.Reads.{BeginsRead, IsSeenIn}
 use Rattle.core_machine.specs.Task.{IsReadTask, marks_of_task}
 use Rattle.core_machine.proofs.FetchableRuns.{AreFetchable-runs, PinsRuns-pinned, marks-of_runs}
 use Rattle.core_machine.proofs.FetchedBytes.{HasBytes-more, HasBytes-none}
 use Rattle.core_machine.proofs.PinnedRuns.{pinned-hold}
 
--- a read that pinned the runs of its range, and has zeros in place of all bytes, begins
-pub BeginsRead-pinned : (s : Job) (f : FileSpans) (version off len : ℕ) (t : ReadTask) (was now : List Log)
-    → AreHeldPlain (held f.held) → t.version ≡ version → t.fetched ≡ 0
-    → t.runs.items ≡ runs (shown (marks_of_file f) off len) → t.bytes.items ≡ replicate (length (shown (marks_of_file f) off len)) 0
-    → ArePins no_count (hold_of f.held.pieces) t.runs.items t.pins was now → BeginsRead s f version off len t was now
-BeginsRead-pinned s f version off len t was now file version_is none runs_is bytes_are pinned =
-    let marks : List (Option Mark) = shown (marks_of_file f) off len in
-    let hold_at = hold_of f.held.pieces in
+-- a read that pinned the runs of what is seen of a range, and has zeros in place of all bytes, begins
+pub BeginsRead-pinned : (s : Job) (marks : List (Option Mark)) (off len : ℕ) (hold_at : Piece → Option PlainHold) (seen : Looked PlainHold)
+    (t : ReadTask) (was now : List Log) → IsSeenIn marks off len hold_at seen → t.version ≡ seen.v → t.fetched ≡ 0
+    → t.runs.items ≡ runs marks → t.bytes.items ≡ replicate (length marks) 0 → ArePins no_count hold_at t.runs.items t.pins was now
+    → BeginsRead s marks seen.v hold_at t was now
+BeginsRead-pinned s marks off len hold_at seen t was now is version_is none runs_is bytes_are pinned =
     let size : length t.bytes.items ≡ length marks = ap length bytes_are ∙ length-replicate (length marks) 0 in
     let same : marks_of_task t ≡ marks =
     ap (marks_of_fragments t.runs.items) size ∙ ap (λ (fs : List Fragment). marks_of_fragments fs (length marks)) runs_is
     ∙ marks-of_runs marks in
     let fetchable : AreFetchable hold_at (length marks) t.runs.items =
-    subst (AreFetchable hold_at (length marks)) (sym runs_is) (AreFetchable-runs hold_at f.held.fragments f.len off len file) in
+    subst (AreFetchable hold_at (length marks)) (sym runs_is) (AreFetchable-runs hold_at marks is.held) in
     let zeros : HasBytes s (take t.fetched t.runs.items) t.bytes.items =
     rw (none, bytes_are) (HasBytes-none s t.runs.items (length marks)) in
     record {
       reading = λ i. record { version = version_is i; marks = same i; fetched = none i };
       task = record {
         runs_are = ap runs same ∙ sym runs_is;
-        pinned = PinsRuns-pinned hold_at no_count t.runs.items t.pins was now (length marks) file.piece fetchable pinned;
+        pinned = PinsRuns-pinned hold_at no_count t.runs.items t.pins was now (length marks) is.theirs fetchable pinned;
         fetched = omega (arith, none);
         bytes = zeros;
       };

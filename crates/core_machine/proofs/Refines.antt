@@ -23,6 +23,7 @@ pub mod PhaseEnds
 pub mod Ready
 pub mod First
 pub mod Reads
+pub mod BooksRead
 pub mod Counts
 pub mod Goes
 pub mod LineEvents

@@ -3,3 +3,6 @@ pub mod Jobs
 pub mod ThreeSlots
 pub mod TwoSlots
 pub mod Overwrites
+pub mod TwoLives
+pub mod Truncs
+pub mod OwnReads

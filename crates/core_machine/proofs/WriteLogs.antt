@@ -13,8 +13,8 @@ use Rattle.fs_script.specs.Vocabulary.{Job, Piece, need}
 use Rattle.fs_script.specs.declared.line.Op.{Op}
 use Rattle.fs_script.proofs.CallerLemmas.{none_from-is_some, some_of}
 use Rattle.piece_table.specs.HeldSpans.{AreGone, HandsOver, held, is_named}
-use Rattle.core_machine.specs.declared.path_state.ClientPath.{ClientPath}
-use Rattle.core_machine.specs.declared.path_state.OwnedPath.{OwnedPath}
+use Rattle.core_machine.specs.declared.client_path.ClientPath.{ClientPath}
+use Rattle.core_machine.specs.Kept.{OwnedPath}
 use Rattle.core_machine.specs.declared.plain_hold.PlainHold.{PlainHold}
 use Rattle.core_machine.specs.declared.task.Task.TheVariants.{Idle}
 use Rattle.core_machine.specs.Follows.{EventSound, LogsSettle}
@@ -25,8 +25,7 @@ use Rattle.core_machine.specs.Logs.{stored_part}
 use Rattle.core_machine.specs.PendingWrites.{AddsHolds, ArePending}
 use Rattle.core_machine.specs.Settling.{FillsLog}
 use Rattle.core_machine.proofs.Filled.{HasPart, IsHeldIn-kept, IsHeldIn-part, part-hold, slot-cases}
-use Rattle.core_machine.proofs.LetGo.{idle_kept}
-use Rattle.core_machine.proofs.SyncLogs.{all_gone}
+use Rattle.core_machine.proofs.LetGo.{all_gone, idle_kept}
 use Rattle.core_machine.proofs.Settled.{AreInSlots, apart-gone, held-gone, settles-gone}
 
 -- What a client has pending once line n is: the line's pieces by these holds, and of the others each its own, or none where
@@ -67,7 +66,7 @@ adds-nothing n holds x k none fresh = record {
   own = λ q own. elim (cases_Bool (is_some (pending_hold k q))) [
     | inr absent ↦ none_from-is_some (pending_hold k q) absent ∙ sym (slice_get_past holds q.part (omega arith))
     | inl there ↦ absurd (true≢false
-        (sym (ap (λ b. is_some (file_hold x.file q) || b) there ∙ or-true (is_some (file_hold x.file q))) ∙ fresh q own))
+        (sym (ap (λ b. is_some (file_hold x.path.file q) || b) there ∙ or-true (is_some (file_hold x.path.file q))) ∙ fresh q own))
   ];
   others = λ q other. inl refl;
   was = λ h is_gone. absurd (omega (arith, is_gone.1));
@@ -90,7 +89,7 @@ fills-log s n r i logs d new holds same within fills = record {
 module _ (s : Job) (n : ℕ) (op : Op) (r : ℕ) (x : OwnedPath) (k l : ClientPath) (logs filled : List Log) (gone : List PlainHold)
     (sound : EventSound s n op r (idle_kept x k logs)) (fill : FillsLog s n r logs filled) (adds : AddsLine n fill.holds k l gone) where
   keeps-pending : (q : Piece) (h : PlainHold) → pending_hold k q ≡ Some h → keeps x k q ≡ true
-  keeps-pending q h is = ap (λ o. is_some (file_hold x.file q) || is_some o) is ∙ or-true (is_some (file_hold x.file q))
+  keeps-pending q h is = ap (λ o. is_some (file_hold x.path.file q) || is_some o) is ∙ or-true (is_some (file_hold x.path.file q))
 
   -- no piece of the line was kept
   not_own : (q : Piece) (h : PlainHold) → pending_hold k q ≡ Some h → q.line ≢ n
@@ -142,7 +141,7 @@ module _ (s : Job) (n : ℕ) (op : Op) (r : ℕ) (x : OwnedPath) (k l : ClientPa
   goes h is_gone =
       let was = adds.was h is_gone in
       let other = not_own h.piece h was in
-      let absent : file_hold x.file h.piece ≡ None = sound.whole.sound.apart h.piece (ap is_some was) in
+      let absent : file_hold x.path.file h.piece ≡ None = sound.whole.sound.apart h.piece (ap is_some was) in
       before_other h.piece other ∙ ap (λ b. cond b 1 0 + 0) (keeps-pending h.piece h was)
       ∙ ap (λ o. cond (is_some o) 1 0 + 0 + 1) (sym (adds.no_more h is_gone other))
       ∙ ap (λ o. cond (is_some o || is_some (pending_hold l h.piece)) 1 0 + 0 + 1) (sym absent)
@@ -161,8 +160,8 @@ module _ (s : Job) (n : ℕ) (op : Op) (r : ℕ) (x : OwnedPath) (k l : ClientPa
   own_held : (q : Piece) → q.line ≡ n → q.part < need s n → holds_kept x l Idle q ≡ 1
   own_held q own below =
       let of = part-hold s n r logs filled fill q.part below in
-      ap (λ o. cond (is_some (file_hold x.file q) || is_some o) 1 0 + 0) (adds.own q own ∙ of.1)
-      ∙ ap (λ b. cond b 1 0 + 0) (or-true (is_some (file_hold x.file q)))
+      ap (λ o. cond (is_some (file_hold x.path.file q) || is_some o) 1 0 + 0) (adds.own q own ∙ of.1)
+      ∙ ap (λ b. cond b 1 0 + 0) (or-true (is_some (file_hold x.path.file q)))
 
   stays : (q i : ℕ) (p : StoredPiece) → (slot_in filled q i).piece ≡ Some p → ((h : PlainHold) → Contains gone h → h.piece ≡ p.id → ⊥)
       → before p.id ≡ holds_kept x l Idle p.id
@@ -175,7 +174,7 @@ module _ (s : Job) (n : ℕ) (op : Op) (r : ℕ) (x : OwnedPath) (k l : ClientPa
         before_own p.id own ∙ sym (own_held p.id own (omega (arith, of, below)))
     | inr same ↦
         let other : p.id.line ≢ n = sound.unfilled q i p (was_piece q i p same has) in
-        before_other p.id other ∙ ap (λ o. cond (is_some (file_hold x.file p.id) || is_some o) 1 0 + 0) (kept_other p.id other none)
+        before_other p.id other ∙ ap (λ o. cond (is_some (file_hold x.path.file p.id) || is_some o) 1 0 + 0) (kept_other p.id other none)
   ]
 
   pub settle-filled : (new : List Log) → ReleasesAll gone filled new → LogsSettle s n r true (idle_kept x k logs) (idle_kept x l new)
@@ -203,9 +202,9 @@ module _ (s : Job) (n : ℕ) (op : Op) (r : ℕ) (x : OwnedPath) (k l : ClientPa
 
   -- ---- what is kept
 
-  file_without : (q : Piece) → keeps x k q ≡ false → file_hold x.file q ≡ None
-  file_without q none = elim (cases_Bool (is_some (file_hold x.file q))) [
-    | inr absent ↦ none_from-is_some (file_hold x.file q) absent
+  file_without : (q : Piece) → keeps x k q ≡ false → file_hold x.path.file q ≡ None
+  file_without q none = elim (cases_Bool (is_some (file_hold x.path.file q))) [
+    | inr absent ↦ none_from-is_some (file_hold x.path.file q) absent
     | inl there ↦ absurd (true≢false (sym (ap (λ b. b || is_some (pending_hold k q)) there) ∙ none))
   ]
 
@@ -222,6 +221,7 @@ module _ (s : Job) (n : ℕ) (op : Op) (r : ℕ) (x : OwnedPath) (k l : ClientPa
   pub sound-written : ArePending s l.pending → AreSound s x l
   sound-written pending = record {
     written = sound.whole.sound.written;
+    board = sound.whole.sound.board;
     pending = pending;
     apart = λ q there. elim (cases_eq q.line n) [
       | inl own ↦ file_without q (sound.fresh q own)

@@ -10,8 +10,8 @@ use Rattle.fs_script.specs.Payload.{bytes_brought, data_bytes, write_at}
 use Rattle.fs_script.specs.Vocabulary.{LONGEST_FILE, Job, Piece, effect_of, marks_in, need, parts_of}
 use Rattle.fs_script.specs.declared.line.Data.{Data}
 use Rattle.fs_script.specs.declared.line.Op.TheVariants as ops
-use Rattle.core_machine.specs.declared.path_state.ClientPath.{ClientPath}
-use Rattle.core_machine.specs.declared.path_state.OwnedPath.{OwnedPath}
+use Rattle.core_machine.specs.declared.client_path.ClientPath.{ClientPath}
+use Rattle.core_machine.specs.Kept.{OwnedPath}
 use Rattle.core_machine.specs.declared.task.Task.TheVariants.{Idle}
 use Rattle.core_machine.specs.Event.{Event, answered, wrote_into}
 use Rattle.core_machine.specs.Follows.{Ends, Follows, free_in, kept_event}
@@ -34,7 +34,7 @@ free-counted logs r i d same within held free =
 -- a write of data, of which the line brings these bytes, to a path that may be written
 module _ (s : Job) (n : ℕ) (x : OwnedPath) (k : ClientPath) (off : ℕ) (text : Data) (free : ℕ)
     (line : write_at s n ≡ Some (record { at = off; bytes = data_bytes text })) (opened : k.is_open ≡ true)
-    (exists : (later_of k.noted x.board).exists ≡ true) (fits : off + length (data_bytes text) ≤ LONGEST_FILE) where
+    (exists : (later_of k.noted x.board.told).exists ≡ true) (fits : off + length (data_bytes text) ≤ LONGEST_FILE) where
   needs : need s n ≡ parts_of s.shape.chunk (length (data_bytes text))
   needs = ap (λ w. parts_of s.shape.chunk (length (bytes_brought w))) line
 
@@ -73,11 +73,11 @@ module _ (s : Job) (n : ℕ) (x : OwnedPath) (k : ClientPath) (off : ℕ) (text 
         → ((q : Piece) → is_some (pending_hold l q) ≡ true → (is_some (pending_hold k q) || q.line == n) ≡ true)
         → Follows s n (ops.Write off text) Idle event x k x l (answers.Wrote slots)
     follows-accepted l same_open same_noted some adds from = record {
-      journal = sym (ap (λ (e : Event). cond e.commits (x.journal.items ++ n ∷ []) x.journal.items) is_event);
+      journal = sym (ap (λ (e : Event). cond e.commits (x.path.journal ++ n ∷ []) x.path.journal) is_event);
       marks = sym (ap (λ (e : Event). cond e.commits
-          (effect_of s (marks_in s) (ops.Write off text) (pending_lines k) (file_marks x.file)) (file_marks x.file))
+          (effect_of s (marks_in s) (ops.Write off text) (pending_lines k) (file_marks x.path.file)) (file_marks x.path.file))
           is_event);
-      board = refl;
+      told = refl;
       opened = same_open;
       pending = adds ∙ sym (ap (λ b. cond b (pending_lines k) (pending_lines k ++ n ∷ []))
           (ne_eqb (length (data_bytes text)) 0 (λ none. omega (arith, some, none))));

@@ -5,3 +5,5 @@ pub mod Write
 pub mod Sync
 pub mod Read
 pub mod Size
+pub mod Trunc
+pub mod Unlink

@@ -14,8 +14,10 @@ most_events ops.Create = 1
 most_events ops.Open = 1
 most_events (ops.Write off text) = 1
 most_events ops.Sync = 1
-most_events (ops.Read off len) = len + 2
+most_events (ops.Read off len own) = len + 2
 most_events ops.Size = 1
+most_events (ops.Trunc n) = 1
+most_events ops.Unlink = 1
 
 abbrev pub most_events_in : Option OpLine → ℕ
 most_events_in None = 0

@@ -6,17 +6,18 @@ use Rattle.slot_plain.specs.Log.{Log}
 use Rattle.slot_plain.specs.Slots.{StoredPiece}
 use Rattle.fs_script.specs.Vocabulary.{Answer, Job, Piece, marks_in, version_of, after_answer, effect_of, at_least, opens, asked}
 use Rattle.fs_script.specs.declared.line.Op.{Op}
-use Rattle.core_machine.specs.declared.path_state.OwnedPath.{OwnedPath}
-use Rattle.core_machine.specs.declared.path_state.ClientPath.{ClientPath}
-use Rattle.core_machine.specs.declared.owner_files.OwnerFiles.{OwnerFiles}
+use Rattle.owner_book.specs.Kept.{Book}
+use Rattle.core_machine.specs.declared.board.Board.{Board}
+use Rattle.core_machine.specs.declared.plain_hold.PlainHold.{PlainHold}
+use Rattle.core_machine.specs.declared.client_path.ClientPath.{ClientPath}
 use Rattle.core_machine.specs.declared.task.Task.{Task}
 use Rattle.core_machine.specs.declared.task.Task.TheVariants.{Idle, Read}
-use Rattle.core_machine.specs.OwnerFiles.{file_in, owned_at, ChangesFile, ChangesPath}
+use Rattle.core_machine.specs.Books.{ChangesPath, path_at}
 use Rattle.core_machine.specs.Doing.{nothing}
 use Rattle.core_machine.specs.Event.{Event, Known, known_of}
 use Rattle.core_machine.specs.Slots.{empty_slots}
 use Rattle.core_machine.specs.Step.{event_of}
-use Rattle.core_machine.specs.Kept.{AreSound, file_marks, file_hold, kept_now, known_from, pending_hold, pending_lines}
+use Rattle.core_machine.specs.Kept.{AreSound, OwnedPath, file_marks, file_hold, kept_now, known_from, owned_of, pending_hold, pending_lines}
 use Rattle.core_machine.specs.Logs.{AreFreeSlots, AreHeldSlots, AreInOneSlot, AreInMemory, HoldsStand, pieces_of, slot_in}
 use Rattle.core_machine.specs.HoldsKept.{holds_kept, keeps}
 use Rattle.core_machine.specs.Settling.{LogsFollow}
@@ -39,8 +40,8 @@ KnowsLookedUp at (Read t) = record { exists = true; frozen = false } ≡ at t.ve
 -- what was noted of each version, and the file now, are as `at` says of the versions
 pub record Knows (at : ℕ → Known) (x : OwnedPath) (k : ClientPath) : Type 0 where
   pub noted : known_from k.noted ≡ at k.noted.version
-  pub board : known_from x.board ≡ at x.board.version
-  pub now : known_of (file_marks x.file) ≡ at (length x.journal.items)
+  pub board : known_from x.board.told ≡ at x.board.told.version
+  pub now : known_of (file_marks x.path.file) ≡ at (length x.path.journal)
 
 -- an event brings its line to its end with this answer, and puts the line's pieces into slots or doesn't
 pub record Ends (e : Event) (fills : Bool) (a : Answer) : Type 0 where
@@ -50,26 +51,26 @@ pub record Ends (e : Event) (fills : Bool) (a : Answer) : Type 0 where
 
 -- the same holds are kept of a path and by a client on it
 pub record KeepsHolds (x : OwnedPath) (k : ClientPath) (y : OwnedPath) (l : ClientPath) : Type 0 where
-  pub files : (q : Piece) → file_hold y.file q ≡ file_hold x.file q
+  pub files : (q : Piece) → file_hold y.path.file q ≡ file_hold x.path.file q
   pub pending : (q : Piece) → pending_hold l q ≡ pending_hold k q
 
 -- line n of a client, the operation op, had this event with this answer, while the client was in the midst of t; x and k are
 -- what was kept for its path and for the client on it, and y and l what is kept after it
 pub record Follows (s : Job) (n : ℕ) (op : Op) (t : Task) (e : Event) (x : OwnedPath) (k : ClientPath) (y : OwnedPath) (l : ClientPath)
     (a : Answer) : Type 0 where
-  pub journal : y.journal.items ≡ (if e.commits then x.journal.items ++ n ∷ [] else x.journal.items)
-  pub marks : file_marks y.file
-      ≡ (if e.commits then effect_of s (marks_in s) op (pending_lines k) (file_marks x.file) else file_marks x.file)
-  pub board : y.board ≡ x.board
+  pub journal : y.path.journal ≡ (if e.commits then x.path.journal ++ n ∷ [] else x.path.journal)
+  pub marks : file_marks y.path.file
+      ≡ (if e.commits then effect_of s (marks_in s) op (pending_lines k) (file_marks x.path.file) else file_marks x.path.file)
+  pub told : y.board.told ≡ x.board.told
   pub opened : l.is_open ≡ (opens op a || k.is_open)
   pub pending : pending_lines l ≡ after_answer op a n (pending_lines k)
   pub version : l.noted.version ≡ at_least k.noted.version (version_of a)
-  pub within : k.noted.version ≤ length x.journal.items → x.board.version ≤ length x.journal.items
-      → LookedUpWithin t (length x.journal.items) → l.noted.version ≤ length y.journal.items
+  pub within : k.noted.version ≤ length x.path.journal → x.board.told.version ≤ length x.path.journal
+      → LookedUpWithin t (length x.path.journal) → l.noted.version ≤ length y.path.journal
   -- whatever the versions' files are, what was noted goes on saying it
   pub known : (at : ℕ → Known) → Knows at y k → KnowsLookedUp at t → known_from l.noted ≡ at l.noted.version
   -- a piece is kept only where one was, or where the line itself wrote it
-  pub owned : (q : Piece) → is_some (file_hold y.file q) ≡ true → keeps x k q ≡ true
+  pub owned : (q : Piece) → is_some (file_hold y.path.file q) ≡ true → keeps x k q ≡ true
   pub pieces : (q : Piece) → is_some (pending_hold l q) ≡ true → (is_some (pending_hold k q) || e.fills && q.line == n) ≡ true
 
 -- without an answer nothing is kept otherwise than before, and nothing is committed or put into slots
@@ -86,7 +87,7 @@ FollowsBy s n op t e x k y l (Some a) = Follows s n op t e x k y l a
 
 -- each hold of the file, of what is pending and of what the client is in the midst of is of a slot that has its piece
 pub record KeptStand (s : Job) (logs : List Log) (x : OwnedPath) (k : ClientPath) (t : Task) : Type 0 where
-  pub files : HoldsStand s logs (file_hold x.file)
+  pub files : HoldsStand s logs (file_hold x.path.file)
   pub pending : HoldsStand s logs (pending_hold k)
   pub pins : HoldsStand s logs (task_hold t)
 
@@ -107,6 +108,16 @@ free_in logs r = length (empty_slots (pieces_of (slice_get logs r)))
 pub record LogsSettle (s : Job) (n r : ℕ) (fills : Bool) (old new : EventKept) : Type 0 where
   pub logs : LogsFollow s n r fills (holds_kept old.owned old.client old.task) (holds_kept new.owned new.client new.task) old.logs new.logs
   pub stand : KeptStand s logs.filled new.owned new.client new.task
+
+-- Line n, the operation op of a client in the midst of nothing, came to its end with this answer and put nothing into slots: what is
+-- kept after it and the logs follow the event, and what is kept is sound.
+pub record EndsLine (s : Job) (n : ℕ) (op : Op) (x : OwnedPath) (k : ClientPath) (was : List Log) (y : OwnedPath) (l : ClientPath)
+    (now : List Log) (a : Answer) : Type 0 where
+  pub ends : (free : ℕ) → Ends (kept_event s x k free Idle op) false a
+  pub follows : (free : ℕ) → Follows s n op Idle (kept_event s x k free Idle op) x k y l a
+  pub logs : (r : ℕ) → LogsSettle s n r false
+      (record { owned = x; client = k; task = Idle; logs = was }) (record { owned = y; client = l; task = Idle; logs = now })
+  pub sound : AreSound s y l
 
 -- line n of client r, the operation op, had its event with this answer, if it has one
 pub record EventFollows (s : Job) (n : ℕ) (op : Op) (r : ℕ) (old new : EventKept) (a : Option Answer) : Type 0 where
@@ -150,32 +161,26 @@ pub record EventSound (s : Job) (n : ℕ) (op : Op) (r : ℕ) (kept : EventKept)
   pub log : r < length kept.logs
   pub rank : (log : Log) → slice_get kept.logs r ≡ Some log → log.rank ≡ r
 
--- ---- what is kept at its owner for a path, and by the clients
+-- ---- what is kept for a path in its owner's book, by its board, and by the clients
 
--- what a list of files or of owners keeps for one path
-abbrev pub Finds : Type 0 → Type 0
-Finds O = O → Option OwnedPath
-
--- what is found for a path, and client r's part, task and log beside it, is sound for its operation
-pub record IsSoundAt {O : Type 0} (find : Finds O) (s : Job) (n : ℕ) (op : Op) (r : ℕ) (owners : O) (clients : List ClientPath)
-    (tasks : List Task) (logs : List Log) : Type 0 where
-  pub owned : OwnedPath
-  pub there : find owners ≡ Some owned
+-- what is kept for path p, and client r's part, task and log beside it, is sound for its operation
+pub record IsSoundAt (p : List ℕ) (s : Job) (n : ℕ) (op : Op) (r : ℕ) (books : List (Book PlainHold)) (board : Board)
+    (clients : List ClientPath) (tasks : List Task) (logs : List Log) : Type 0 where
   pub client : ClientPath
   pub beside : slice_get clients r ≡ Some client
   pub task : Task
   pub midst : slice_get tasks r ≡ Some task
-  pub sound : EventSound s n op r (record { owned = owned; client = client; task = task; logs = logs })
+  pub sound : EventSound s n op r (record { owned = owned_of (path_at books p) board; client = client; task = task; logs = logs })
 
--- line n of client r, the operation op, had its event, and of what is kept for its path, by the client and of the logs all
--- follows; `change` says when of the owners' parts that of the path alone changed to this
-pub record FollowsAt {O : Type 0} (find : Finds O) (change : O → O → OwnedPath → Type 0) (s : Job) (n : ℕ) (op : Op) (r : ℕ)
-    (owners owners' : O) (clients clients' : List ClientPath) (tasks tasks' : List Task)
-    (logs logs' : List Log) (a : Option Answer) : Type 0 where
+-- line n of client r, the operation op on path p, had its event, and of what is kept for the path, by the client and of the logs
+-- all follows; of the books the path alone changed
+pub record FollowsAt (p : List ℕ) (s : Job) (n : ℕ) (op : Op) (r : ℕ) (books books' : List (Book PlainHold)) (board board' : Board)
+    (clients clients' : List ClientPath) (tasks tasks' : List Task) (logs logs' : List Log) (a : Option Answer) : Type 0 where
   pub was : EventKept
   pub now : EventKept
-  pub there : find owners ≡ Some was.owned
-  pub changes : change owners owners' now.owned
+  pub there : was.owned ≡ owned_of (path_at books p) board
+  pub changes : ChangesPath books books' p now.owned.path
+  pub board_is : now.owned.board ≡ board'
   pub beside : slice_get clients r ≡ Some was.client
   pub changed : clients' ≡ slice_set clients r now.client
   pub midst : slice_get tasks r ≡ Some was.task
@@ -184,17 +189,3 @@ pub record FollowsAt {O : Type 0} (find : Finds O) (change : O → O → OwnedPa
   pub logs_are : now.logs ≡ logs'
   pub follows : EventFollows s n op r was now a
   pub whole : IsWhole s op now
-
--- at one server, for the file of a gfid and a path
-abbrev pub finds_file : ℕ → List ℕ → Finds OwnerFiles
-finds_file gfid p owner = file_in owner gfid p
-
-abbrev pub changes_file : ℕ → List ℕ → OwnerFiles → OwnerFiles → OwnedPath → Type 0
-changes_file gfid p old new x = ChangesFile old new gfid p x
-
--- at the owner of a path
-abbrev pub finds_path : List ℕ → Finds (List OwnerFiles)
-finds_path p owners = owned_at owners p
-
-abbrev pub changes_path : List ℕ → List OwnerFiles → List OwnerFiles → OwnedPath → Type 0
-changes_path p old new x = ChangesPath old new p x

@@ -2,28 +2,40 @@
 use Rattle.std.specs.Prelude.{◌≡◌, ℕ, true, false, nat_le, is_some, List, [], length, All, Option, Some, None, Vec, IfSome, if◌then◌else◌}
 use Rattle.piece_table.specs.HeldSpans.{held}
 use Rattle.fs_script.specs.Vocabulary.{File, Job, Mark, Piece, marked_bytes}
+use Rattle.owner_book.specs.Calls.{attr, version}
+use Rattle.owner_book.specs.Journals.{marked}
+use Rattle.owner_book.specs.Kept.{Book, BookFile, BookPath, held_in, no_path, path_in}
+use Rattle.owner_book.specs.declared.committed.Committed.{Committed}
+use Rattle.core_machine.specs.declared.board.Board.{Board}
+use Rattle.core_machine.specs.declared.client_path.ClientPath.{ClientPath}
 use Rattle.core_machine.specs.declared.noted.Noted.{Noted}
-use Rattle.core_machine.specs.declared.path_state.OwnedPath.{OwnedPath}
-use Rattle.core_machine.specs.declared.path_state.ClientPath.{ClientPath}
-use Rattle.core_machine.specs.declared.file_spans.FileSpans.{FileSpans}
 use Rattle.core_machine.specs.declared.plain_hold.PlainHold.{PlainHold}
-use Rattle.core_machine.specs.FileSpans.{IsFile, marks_of_file}
+use Rattle.core_machine.specs.BookFiles.{IsFile}
 use Rattle.core_machine.specs.PendingWrites.{ArePending, IsNonePending}
 use Rattle.core_machine.specs.Event.{Known, PathNow}
 
--- the marks of the file, if there is one; nothing freezes it
-abbrev pub file_marks : Option FileSpans → File (Option Mark)
-file_marks None = None
-file_marks (Some f) = Some (record { cells = marks_of_file f; frozen = false })
+-- what the owner's book has of a path, and what all clients know of it
+pub record OwnedPath : Type 0 where
+  pub path : BookPath PlainHold
+  pub board : Board
+
+abbrev pub owned_of : BookPath PlainHold → Board → OwnedPath
+owned_of x board = record { path = x; board = board }
+
+abbrev pub owned_in : Book PlainHold → ℕ → List ℕ → Board → OwnedPath
+owned_in book gfid p board = owned_of (path_in book gfid p) board
+
+-- the marks of the file, if there is one
+abbrev pub file_marks : Option (BookFile PlainHold) → File (Option Mark)
+file_marks file = marked file
 
 -- its bytes
-abbrev pub file_of : Job → Option FileSpans → File ℕ
+abbrev pub file_of : Job → Option (BookFile PlainHold) → File ℕ
 file_of s f = marked_bytes s (file_marks f)
 
 -- the hold of a piece of the file
-abbrev pub file_hold : Option FileSpans → Piece → Option PlainHold
-file_hold None q = None
-file_hold (Some f) q = (held f.held).hold_of q
+abbrev pub file_hold : Option (BookFile PlainHold) → Piece → Option PlainHold
+file_hold file q = (held_in file).hold_of q
 
 -- what is known of the file at a noted version
 abbrev pub known_from : Noted → Known
@@ -43,51 +55,64 @@ pending_hold k q = (held k.pending.held).hold_of q
 -- what an event of a client sees of what is kept for its path, and how many slots of its log are free
 abbrev pub kept_now : Job → OwnedPath → ClientPath → ℕ → PathNow
 kept_now s x k free = record {
-  file = file_of s x.file;
-  marks = file_marks x.file;
-  version = length x.journal.items;
+  file = file_of s x.path.file;
+  marks = file_marks x.path.file;
+  version = version x.path;
   pending = pending_lines k;
   is_open = k.is_open;
-  front = (later_of k.noted x.board).version;
-  at_front = known_from (later_of k.noted x.board);
+  front = (later_of k.noted x.board.told).version;
+  at_front = known_from (later_of k.noted x.board.told);
   free = free;
 }
 
--- the file and the pending writes are whole, and have no piece in common
+-- what is noted of a path as it is in the book: its version, and whether there is a file
+abbrev pub noted_now : BookPath PlainHold → Noted
+noted_now x = record { version = version x; exists = (attr x).exists }
+
+-- what the owner's answer to a commit says of the path
+abbrev pub noted_of : Committed PlainHold → Noted
+noted_of done = record { version = done.v; exists = done.attr.exists }
+
+-- the file and the pending writes are whole, and have no piece in common; and the board has what is noted of the path now
 pub record AreSound (s : Job) (x : OwnedPath) (k : ClientPath) : Type 0 where
-  pub written : IfSome x.file IsFile
+  pub written : IfSome x.path.file IsFile
+  pub board : x.board.latest ≡ noted_now x.path
   pub pending : ArePending s k.pending
-  pub apart : (q : Piece) → is_some (pending_hold k q) ≡ true → file_hold x.file q ≡ None
+  pub apart : (q : Piece) → is_some (pending_hold k q) ≡ true → file_hold x.path.file q ≡ None
 
 -- all that is kept for a path: by its owner, and by each client
 pub record PathState : Type 0 where
   pub owned : OwnedPath
   pub clients : List ClientPath
 
+-- what is noted of a path on which nothing was done, and what all clients know of it
+abbrev pub unseen : Noted
+unseen = record { version = 0; exists = false }
+
+abbrev pub fresh_board : Board
+fresh_board = record { told = unseen; latest = unseen }
+
 -- nothing was committed, and nothing is known of the path
-pub record IsFreshOwner (x : OwnedPath) : Type 0 where
-  pub journal : x.journal.items ≡ []
-  pub file : x.file ≡ None
-  pub board : x.board ≡ record { version = 0; exists = false }
+abbrev pub fresh_owned : OwnedPath
+fresh_owned = record { path = no_path; board = fresh_board }
 
 -- the client did nothing
 pub record IsFreshClient (k : ClientPath) : Type 0 where
   pub is_open : k.is_open ≡ false
   pub pending : IsNonePending k.pending
-  pub noted : k.noted ≡ record { version = 0; exists = false }
+  pub noted : k.noted ≡ unseen
 
 -- they are so many clients, none of which did anything
 pub record AreFreshClients {A : Type 0} (count : ℕ) (ks : Vec ClientPath A) : Type 0 where
   pub sized : length ks.items ≡ count
   pub fresh : All IsFreshClient ks.items
 
--- what all clients are told of a path at the end of a phase: its version, and whether there is a file
-abbrev pub board_now : OwnedPath → Noted
-board_now x = record { version = length x.journal.items; exists = is_some x.file }
+-- a board once all clients were told what is noted of the path now, and the owner's part with it
+abbrev pub board_told : Board → Board
+board_told b = record { told = b.latest; latest = b.latest }
 
--- the owner's part, once they were told
 abbrev pub owner_told : OwnedPath → OwnedPath
-owner_told x = record x { board = board_now x }
+owner_told x = record { path = x.path; board = board_told x.board }
 
 -- the path, once they were told
 abbrev pub with_board : PathState → PathState
@@ -95,6 +120,6 @@ with_board x = record { owned = owner_told x.owned; clients = x.clients }
 
 -- nothing was committed to the path, and of so many clients none did anything
 pub record IsFreshPath (count : ℕ) (x : PathState) : Type 0 where
-  pub owned : IsFreshOwner x.owned
+  pub owned : x.owned ≡ fresh_owned
   pub sized : length x.clients ≡ count
   pub clients : All IsFreshClient x.clients

@@ -1,6 +1,6 @@
 pub mod PlainHolds
 pub mod PendingWrites
-pub mod FileSpans
+pub mod BookFiles
 pub mod ReadRuns
 pub mod PathTable
 pub mod Doing
@@ -16,7 +16,7 @@ pub mod StandingLogs
 pub mod Task
 pub mod Kept
 pub mod HoldsKept
-pub mod OwnerFiles
+pub mod Books
 pub mod PathStates
 pub mod Follows
 pub mod Turns

@@ -18,7 +18,7 @@ clients_of places tasks = map client_at (zip places tasks)
 
 -- the journals that are kept, each beside its path
 abbrev pub journals_of : List (List ℕ) → List PathState → List (List ℕ × List ℕ)
-journals_of paths states = zip paths (map (λ x. x.owned.journal.items) states)
+journals_of paths states = zip paths (map (λ x. x.owned.path.journal) states)
 
 abbrev pub moment_of : Job → List (List ℕ) → List PathState → Given → Places → List Task → List Log → Bool → Moment
 moment_of s paths states answers turns tasks logs spent = record {

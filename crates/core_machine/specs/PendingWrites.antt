@@ -3,9 +3,12 @@ use Rattle.std.specs.Prelude.{◌≡◌, ℕ, ◌+◌, ◌-◌, ◌*◌, min, ta
 use Rattle.std.specs.Prelude.{IsSome, All, if◌then◌else◌}
 use Rattle.std.specs.List.{AllByRecursion}
 use Rattle.fs_types.specs.FragmentMarks.{mark_at, marks_of_fragments}
-use Rattle.fs_types.specs.Fragments.{end_of}
+use Rattle.fs_types.specs.Fragments.{IsWellFormedPush, end_of}
+use Rattle.fs_types.specs.declared.push.Push.{Push}
 use Rattle.fs_script.specs.Vocabulary.{LONGEST_FILE, Job, Piece, mark_of, need, part, write_at, payload, offset, marks_put}
-use Rattle.piece_table.specs.HeldSpans.{Held, held, is_named}
+use Rattle.piece_table.specs.HeldSpans.{AreGone, Held, held, is_named, pushed}
+use Rattle.slot_plain.specs.Log.{Log}
+use Rattle.core_machine.specs.Logs.{ReleasesAll}
 use Rattle.core_machine.specs.PlainHolds.{AreHeldPlain}
 use Rattle.core_machine.specs.declared.pending.Pending.{Pending}
 use Rattle.core_machine.specs.declared.plain_hold.PlainHold.{PlainHold}
@@ -31,6 +34,19 @@ pub record IsNonePending (q : Pending) : Type 0 where
   pub fragments : length q.held.fragments ≡ 0
   pub holds : (x : Piece) → (held q.held).hold_of x ≡ None
   pub end : q.end ≡ 0
+
+-- nothing is pending any more, and the holds of what was pending are let go of in the logs, each once
+pub record DropsPending (old new : Pending) (was now : List Log) : Type 0 where
+  pub none : IsNonePending new
+  pub gone : List PlainHold
+  pub are_gone : AreGone (λ h. h.piece) (held old.held) (held new.held) gone
+  pub logs : ReleasesAll gone was now
+
+-- a push of these fragments with their holds
+pub record IsPushOf (x : Held PlainHold) (push : Push PlainHold) : Type 0 where
+  pub well_formed : IsWellFormedPush (λ h. h.piece) (λ h. h.bytes) push
+  pub fragments : push.frags.items ≡ x.fragments
+  pub holds : (q : Piece) → (pushed (λ h. h.piece) push.frags.items push.holds.items).hold_of q ≡ x.hold_of q
 
 -- ---- the holds of a line's parts
 

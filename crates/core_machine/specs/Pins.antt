@@ -1,5 +1,6 @@
 -- What a read pins: a hold of each piece that its runs are of, and how often the runs name it.
 use Rattle.std.specs.Prelude.{◌≡◌, ℕ, ◌+◌, ◌-◌, ◌==◌, ◌&&◌, List, [], ◌∷◌, Option, Some, None, is_some, IfSome, MatchBool, if◌then◌else◌}
+use Rattle.std.specs.Option.{option_or}
 use Rattle.fs_types.specs.Fragments.{fragment_count, piece_eq}
 use Rattle.piece_table.specs.HeldSpans.{is_named}
 use Rattle.piece_table.specs.PieceTable.{Pieces, hold_of, number_of}
@@ -13,6 +14,10 @@ use Rattle.core_machine.specs.Settling.{Settles}
 -- how often the pins hold a piece
 abbrev pub pin_count : Pieces PlainHold → Piece → ℕ
 pin_count pins q = if is_some (hold_of pins q) then 1 else 0
+
+-- the hold of a piece: the one that was found, or else the client's own
+abbrev pub either_hold : (Piece → Option PlainHold) → (Piece → Option PlainHold) → Piece → Option PlainHold
+either_hold found own q = option_or (found q) (own q)
 
 -- nothing holds any piece
 abbrev pub no_count : Piece → ℕ

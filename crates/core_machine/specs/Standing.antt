@@ -7,13 +7,12 @@ use Rattle.slot_plain.specs.Log.{Log}
 use Rattle.fs_script.specs.Vocabulary.{Given, answer_at, Job, Piece, need, op_at, own_at, phase, Answering}
 use Rattle.fs_script.specs.Vocabulary.{pending, marks_at, is_open, seen, past_lines, ArePaths}
 use Rattle.fs_script.specs.declared.line.OpLine.{OpLine}
-use Rattle.core_machine.specs.declared.path_state.OwnedPath.{OwnedPath}
-use Rattle.core_machine.specs.declared.path_state.ClientPath.{ClientPath}
+use Rattle.core_machine.specs.declared.client_path.ClientPath.{ClientPath}
 use Rattle.core_machine.specs.declared.task.Task.{Task}
 use Rattle.core_machine.specs.Event.{known_of}
-use Rattle.core_machine.specs.FileSpans.{IsFile}
+use Rattle.core_machine.specs.BookFiles.{IsFile}
 use Rattle.core_machine.specs.Follows.{KnowsLookedUp, LookedUpWithin, MayBeIn}
-use Rattle.core_machine.specs.Kept.{PathState, file_hold, file_marks, known_from, pending_hold, pending_lines}
+use Rattle.core_machine.specs.Kept.{OwnedPath, PathState, noted_now, file_hold, file_marks, known_from, pending_hold, pending_lines}
 use Rattle.core_machine.specs.LegalSoFar.{CanRun, IsAnsweredUpTo}
 use Rattle.core_machine.specs.Logs.{HoldsStand}
 use Rattle.core_machine.specs.MomentKept.{moment_of}
@@ -35,14 +34,16 @@ pub record IsPieceOn (s : Job) (A : Answering) (p : List ℕ) (q : Piece) : Type
   pub by_client : IsPieceBy s A client p q
 
 -- the owner's part: all lines of the journal were answered, the file is what they make, of pieces that were written to the
--- path, and the board has how many of them are of earlier phases than the run's, with what is known of the file then
+-- path, and the board has what is noted of the path now, and how many lines of it are of earlier phases than the run's, with
+-- what is known of the file then, which all clients were told
 pub record StandsForOwner (s : Job) (A : Answering) (now : ℕ) (p : List ℕ) (x : OwnedPath) : Type 0 where
-  pub answered : AllByRecursion (λ m. IsSome (A m)) x.journal.items
-  pub written : IfSome x.file IsFile
-  pub marks : file_marks x.file ≡ marks_at s A x.journal.items (length x.journal.items)
-  pub pieces : (q : Piece) → is_some (file_hold x.file q) ≡ true → IsPieceOn s A p q
-  pub board : x.board.version ≡ count_by (λ m. nat_lt (phase s m) now) x.journal.items
-  pub known : known_from x.board ≡ known_of (marks_at s A x.journal.items x.board.version)
+  pub answered : AllByRecursion (λ m. IsSome (A m)) x.path.journal
+  pub written : IfSome x.path.file IsFile
+  pub marks : file_marks x.path.file ≡ marks_at s A x.path.journal (length x.path.journal)
+  pub pieces : (q : Piece) → is_some (file_hold x.path.file q) ≡ true → IsPieceOn s A p q
+  pub board : x.board.latest ≡ noted_now x.path
+  pub told : x.board.told.version ≡ count_by (λ m. nat_lt (phase s m) now) x.path.journal
+  pub known : known_from x.board.told ≡ known_of (marks_at s A x.path.journal x.board.told.version)
 
 -- client r's part of path p: whether it is open, what is pending, of pieces that the client wrote to the path and that aren't in
 -- the file, and the greatest version seen with what is known of the file
@@ -51,10 +52,10 @@ pub record StandsForClient (s : Job) (A : Answering) (r : ℕ) (p : List ℕ) (x
   pub pending : pending_lines k ≡ pending s A r p (past_lines s)
   pub whole : ArePending s k.pending
   pub pieces : (q : Piece) → is_some (pending_hold k q) ≡ true → IsPieceBy s A r p q
-  pub apart : (q : Piece) → is_some (pending_hold k q) ≡ true → file_hold x.file q ≡ None
+  pub apart : (q : Piece) → is_some (pending_hold k q) ≡ true → file_hold x.path.file q ≡ None
   pub seen : k.noted.version ≡ seen s A r p (past_lines s)
-  pub within : k.noted.version ≤ length x.journal.items
-  pub known : known_from k.noted ≡ known_of (marks_at s A x.journal.items k.noted.version)
+  pub within : k.noted.version ≤ length x.path.journal
+  pub known : known_from k.noted ≡ known_of (marks_at s A x.path.journal k.noted.version)
 
 -- all that is kept for path p
 pub record Stands (s : Job) (A : Answering) (now : ℕ) (p : List ℕ) (x : PathState) : Type 0 where
@@ -64,7 +65,7 @@ pub record Stands (s : Job) (A : Answering) (now : ℕ) (p : List ℕ) (x : Path
 
 -- each hold that is kept for a path is of a slot that has its piece
 pub record HoldsOfPath (s : Job) (logs : List Log) (x : PathState) : Type 0 where
-  pub files : HoldsStand s logs (file_hold x.owned.file)
+  pub files : HoldsStand s logs (file_hold x.owned.path.file)
   pub pending : (r : ℕ) (k : ClientPath) → slice_get x.clients r ≡ Some k → HoldsStand s logs (pending_hold k)
 
 -- what client r is in the midst of is whole, each of its holds is of a slot that has its piece, and its next line is one that
@@ -76,8 +77,8 @@ pub record StandsForTask (s : Job) (turns : Places) (logs : List Log) (r : ℕ) 
 
 -- the version that a client looked up is one of the journal of its next line's path, and a file was there
 pub record StandsForLookUp (s : Job) (A : Answering) (x : OwnedPath) (t : Task) : Type 0 where
-  pub within : LookedUpWithin t (length x.journal.items)
-  pub known : KnowsLookedUp (λ v. known_of (marks_at s A x.journal.items v)) t
+  pub within : LookedUpWithin t (length x.path.journal)
+  pub known : KnowsLookedUp (λ v. known_of (marks_at s A x.path.journal v)) t
 
 -- ---- all that is kept
 

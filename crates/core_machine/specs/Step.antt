@@ -23,6 +23,8 @@ use Rattle.core_machine.specs.Events.Write.{write_event}
 use Rattle.core_machine.specs.Events.Sync.{sync_event}
 use Rattle.core_machine.specs.Events.Read.{read_event}
 use Rattle.core_machine.specs.Events.Size.{size_event}
+use Rattle.core_machine.specs.Events.Trunc.{trunc_event}
+use Rattle.core_machine.specs.Events.Unlink.{unlink_event}
 
 -- whose turn it is
 pub record Turn : Type 0 where
@@ -35,8 +37,10 @@ event_of s w d ops.Create = create_event w
 event_of s w d ops.Open = open_event w
 event_of s w d (ops.Write off text) = write_event s.shape.chunk w (write_of off text)
 event_of s w d ops.Sync = sync_event w
-event_of s w d (ops.Read off len) = read_event s w d (range_of off len)
+event_of s w d (ops.Read off len own) = read_event s w d (range_of off len own)
 event_of s w d ops.Size = size_event w
+event_of s w d (ops.Trunc n) = trunc_event w
+event_of s w d ops.Unlink = unlink_event w
 
 -- what line n, the operation o, sees of its path, whose journal is J, and of the log of its client
 abbrev pub path_now : Job → Answering → List ℕ → List (Option Piece) → ℕ → OpLine → PathNow

@@ -12,25 +12,29 @@ pub use Rattle.core_machine.specs.EventsLeft.{most_events, most_events_in, most_
 pub use Rattle.core_machine.specs.Events.Create.{create_over, create_event}
 pub use Rattle.core_machine.specs.Events.Read.{shows, lookup_over, lookup_event, to_show, fetch_event, read_event}
 pub use Rattle.core_machine.specs.Events.Sync.{sync_over, sync_event}
+pub use Rattle.core_machine.specs.Events.Trunc.{trunc_over, trunc_event}
+pub use Rattle.core_machine.specs.Events.Unlink.{unlink_over, unlink_event}
 pub use Rattle.core_machine.specs.Events.Write.{write_where_free, write_within, write_at_front, write_event}
 pub use Rattle.core_machine.specs.Follows.{EventFollows, EventKept, EventSound, Follows, FollowsBy}
 pub use Rattle.core_machine.specs.Follows.{IsWhole, KeepsAll, KeptStand, Knows, KnowsLookedUp}
 pub use Rattle.core_machine.specs.Follows.{LookedUpWithin, MayBeIn, free_in, kept_event}
-pub use Rattle.core_machine.specs.FileSpans.{IsFile, marks_of_file}
+pub use Rattle.core_machine.specs.BookFiles.{IsFile, marks_of_file}
 pub use Rattle.core_machine.specs.HoldsKept.{holds_kept, keeps}
 pub use Rattle.core_machine.specs.PendingWrites.{ArePending, IsNonePending}
 pub use Rattle.core_machine.specs.Logs.{HoldsStand, IsHeldIn, IsInMemory, SameFrames, piece_in, pieces_in, pieces_of, slot_in, slot_of, stored_part}
 pub use Rattle.core_machine.specs.Settling.{FillsLog, LogsFollow, Settles}
 pub use Rattle.core_machine.specs.StandingLogs.{IsLogOf, StandsForLogs, StandsForSlot}
 pub use Rattle.core_machine.specs.Task.{IsReadTask, IsTask, doing_of, marks_of_task, reading_of, task_hold}
-pub use Rattle.core_machine.specs.declared.file_spans.FileSpans.{FileSpans}
+pub use Rattle.owner_book.specs.Kept.{Book, BookFile, BookPath, no_path}
+pub use Rattle.core_machine.specs.declared.board.Board.{Board}
+pub use Rattle.core_machine.specs.Books.{ChangesPath, path_at}
 pub use Rattle.core_machine.specs.declared.pending.Pending.{Pending}
 pub use Rattle.core_machine.specs.declared.plain_hold.PlainHold.{PlainHold}
 pub use Rattle.core_machine.specs.declared.task.Task.{Task}
 pub use Rattle.core_machine.specs.declared.task.Task.TheVariants.{Idle, Read}
 pub use Rattle.core_machine.specs.Kept.{file_hold, file_marks, file_of, pending_hold, pending_lines}
-pub use Rattle.core_machine.specs.Kept.{IsFreshOwner, IsFreshClient, IsFreshPath, AreSound}
-pub use Rattle.core_machine.specs.Kept.{known_from, board_now}
+pub use Rattle.core_machine.specs.Kept.{IsFreshClient, IsFreshPath, AreSound, OwnedPath}
+pub use Rattle.core_machine.specs.Kept.{board_told, fresh_board, fresh_owned, known_from, noted_now, owned_in, unseen}
 pub use Rattle.core_machine.specs.Kept.{PathState, owner_told, with_board, kept_now, later_of}
 pub use Rattle.core_machine.specs.LegalSoFar.{HasClients, CanRun, IsUnderWay, MayGoOn, IsLegalMoment, Reaches, IsAnsweredUpTo}
 pub use Rattle.core_machine.specs.Moment.{Client, Moment, fresh_client, ready, printed, answering, client_of, journal, IsFirst, has_begun}
@@ -48,7 +52,6 @@ pub use Rattle.core_machine.specs.Step.{Turn, step, path_now, answers_with, logs
 pub use Rattle.core_machine.specs.Step.{event_at, step_line, step_at, after_turn, event_of}
 pub use Rattle.core_machine.specs.Turns.{Places, next_in, going, IsInPhase, is_of_phase, after_line}
 pub use Rattle.core_machine.specs.declared.noted.Noted.{Noted}
-pub use Rattle.core_machine.specs.declared.path_state.ClientPath.{ClientPath}
-pub use Rattle.core_machine.specs.declared.path_state.OwnedPath.{OwnedPath}
+pub use Rattle.core_machine.specs.declared.client_path.ClientPath.{ClientPath}
 pub use Rattle.core_machine.specs.declared.program.Program.{Program}
 pub use Rattle.core_machine.specs.declared.turns.Turns.TheInside.{Inside}

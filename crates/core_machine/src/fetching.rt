@@ -8,11 +8,11 @@ ghost use Rattle.piece_table.specs.PieceTable.{hold_of};
 ghost use Rattle.core_machine.specs.Fetching.{AreFetchable, HasBytes};
 ghost use Rattle.core_machine.specs.Logs.{AreInMemory, HoldsStand, IsHeldIn, IsInMemory};
 
-use crate::file_spans::FileSpans;
 use crate::logs::fetch;
 use crate::plain_hold::PlainHold;
 use fs_dev::SpillDev;
 use fs_types::Frag;
+use piece_table::PieceTable;
 use slot_plain::PlainLog;
 
 /// Puts the bytes of a run in their places, from the slot of a hold of its piece.
@@ -37,23 +37,23 @@ pub fn fetch_run<D: SpillDev + Drop>(
     fetch(logs, hold, run.from, &mut bytes[at..at + run.len as usize]);
 }
 
-/// Puts the bytes of all of these runs of a file in their places, over zeros.
+/// Puts the bytes of all of these runs in their places, over zeros, by the holds that were found.
 pub fn fetch_all<D: SpillDev + Drop>(
-    file: &FileSpans,
+    found: &PieceTable<PlainHold>,
     runs: &[Frag],
     logs: &mut [PlainLog<D>],
     bytes: &mut [u8],
 )
-    requires runs { AreFetchable (hold_of file.now.held.pieces) (length bytes.old) runs.now }
-    requires stand { (s : Job) × HoldsStand s logs.old (hold_of file.now.held.pieces)
+    requires runs { AreFetchable (hold_of found.now) (length bytes.old) runs.now }
+    requires stand { (s : Job) × HoldsStand s logs.old (hold_of found.now)
         × AreInMemory s logs.old }
     requires zeros { bytes.old ≡ replicate (length bytes.old) 0 }
-    ensures bytes { (s : Job) → HoldsStand s logs.old (hold_of file.now.held.pieces)
+    ensures bytes { (s : Job) → HoldsStand s logs.old (hold_of found.now)
         → HasBytes s runs.now bytes.new }
     ensures logs { logs.new ≡ logs.old }
 {
     for run in runs {
-        let Some(hold) = file.held.get(run.piece) else {
+        let Some(hold) = found.get(run.piece) else {
             unreachable!()
         };
         fetch_run(logs, hold, run, bytes);

@@ -3,18 +3,17 @@
 //! logs were given, and nothing else outside memory.
 #![tactic(auto)]
 
+mod board;
+mod books;
+mod client_path;
 mod digest;
 mod event;
 mod fetching;
-mod file_spans;
 mod file_state;
 mod laws;
 mod logs;
 mod machine;
 mod noted;
-mod owner_files;
-mod owners;
-mod path_state;
 mod path_table;
 mod pending;
 mod pins;
@@ -24,6 +23,7 @@ mod read_runs;
 mod run;
 mod task;
 mod turns;
+mod view;
 
 pub use laws::{
     answers_were_given, free_is_what_is_left, held_is_exact, logs_hold_exactly, no_space_is_exact,

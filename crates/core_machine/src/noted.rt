@@ -12,6 +12,12 @@ pub struct Noted {
     pub exists: bool,
 }
 
+/// What is noted of a path on which nothing was done.
+pub const UNSEEN: Noted = Noted {
+    version: Version(0),
+    exists: false,
+};
+
 impl Noted {
     /// The one of the greater version.
     pub fn later(self, other: Noted) -> Noted

@@ -1,15 +1,15 @@
 //! What a client wrote to a path and hasn't committed. It touches nothing outside memory.
 
-ghost use Rattle.std.specs.Prelude.{◌≡◌, ◌++◌, ◌∷◌, [], ◌↔◌, ℕ, None, IsTrue, length, OnOk};
+ghost use Rattle.std.specs.Prelude.{◌≡◌, ◌++◌, ◌∷◌, [], ◌↔◌, ℕ, None, IsTrue, length, IfOk, OnOk};
 ghost use Rattle.fs_script.specs.Grammar.{IsJob};
-ghost use Rattle.fs_script.specs.Vocabulary.{offset, payload};
+ghost use Rattle.fs_script.specs.Vocabulary.{Job, offset, payload};
 ghost use Rattle.piece_table.specs.HeldSpans.{HandsOver, held};
 ghost use Rattle.core_machine.specs.PlainHolds.{AreHeldPlain};
-ghost use Rattle.core_machine.specs.PendingWrites.{AddsHolds, ArePartHolds, ArePending, BringsBytes, HasParts, IsNonePending};
+ghost use Rattle.core_machine.specs.PendingWrites.{AddsHolds, ArePartHolds, ArePending, BringsBytes, HasParts, IsNonePending, IsPushOf};
 
 use crate::plain_hold::PlainHold;
 use fs_script::Script;
-use fs_types::{Frag, LineNo, Want};
+use fs_types::{Frag, LineNo, Push, Want};
 use piece_table::HeldSpans;
 use span_list::SpanList;
 use std::alloc::Global;
@@ -112,6 +112,19 @@ impl Pending {
         self.lines.push(n)?;
         self.end = self.end.max(off + len);
         Ok(())
+    }
+
+    /// All of it as a push, and nothing is pending any more. After want of memory what is kept is
+    /// open.
+    pub fn take(&mut self, alloc: Global) -> Result<Push<PlainHold>, Want>
+        requires pending { (s : Job) × ArePending s self.old }
+        ensures push { IfOk result (IsPushOf (held self.old.held)) }
+        ensures none { OnOk result (IsNonePending self.new) }
+    {
+        let push = self.held.take_push(alloc)?;
+        self.lines.clear();
+        self.end = 0;
+        Ok(push)
     }
 
     /// Forgets all of it. The holds go to the end of `dead`. After want of memory what is kept is

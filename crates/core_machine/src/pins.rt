@@ -1,51 +1,83 @@
 //! Pins of the pieces that a read fetches: while it is under way, their slots are held once more.
 
-ghost use Rattle.std.specs.Prelude.{◌≡◌, ◌<◌, ◌-◌, ◌^◌, ℕ, true, is_some, None, length, All, IsSome, IfSome, IfOk, OnOk};
-ghost use Rattle.fs_types.specs.Fragments.{fragment_count};
+ghost use Rattle.std.specs.Prelude.{◌≡◌, ◌<◌, ◌-◌, ◌^◌, ℕ, true, false, is_some, None, find, All, AllPairs, IsSome, IfSome, IfOk, OnOk};
+ghost use Rattle.fs_types.specs.Fragments.{fragment_count, piece_eq};
 ghost use Rattle.fs_types.specs.Pieces.{Piece};
-ghost use Rattle.piece_table.specs.HeldSpans.{is_named};
+ghost use Rattle.piece_table.specs.HeldSpans.{held, is_named};
 ghost use Rattle.piece_table.specs.PieceTable.{AreTheirs, hold_of, number_of};
 ghost use Rattle.core_machine.specs.Logs.{AreHeldSlots, AreInOneSlot, IsHeld, slot_in};
-ghost use Rattle.core_machine.specs.Pins.{ArePins, HaveSlots, LetsGoOnce, PinsOnce, no_count, pin_count};
+ghost use Rattle.core_machine.specs.Pins.{ArePins, HaveSlots, LetsGoOnce, PinsOnce, either_hold, no_count, pin_count};
 ghost use Rattle.core_machine.specs.Settling.{Settles};
 
-use crate::file_spans::FileSpans;
 use crate::logs::{pin, release};
 use crate::plain_hold::PlainHold;
 use fs_dev::SpillDev;
 use fs_types::{Frag, PieceId, Want};
-use piece_table::PieceTable;
+use piece_table::{HeldSpans, PieceTable};
 use slot_plain::PlainLog;
+use span_list::SpanList;
 use std::alloc::Global;
 
-// Counts one run more of a piece of the file, and pins the piece if it is the first.
+/// The holds that a look-up handed out, each by its piece.
+pub fn table_of(alloc: Global, holds: &[PlainHold]) -> Result<PieceTable<PlainHold>, Want>
+    requires apart { AllPairs (λ g h. piece_eq g.piece h.piece ≡ false) holds.now }
+    ensures { IfOk result (λ t. (q : Piece)
+        → hold_of t q ≡ find (λ h. piece_eq h.piece q) holds.now) }
+{
+    let mut found = PieceTable::new(alloc);
+    for hold in holds {
+        if let Err((want, _)) = found.enter(*hold) {
+            return Err(want);
+        }
+    }
+    Ok(found)
+}
+
+// The hold of a piece: the one that was found, or else the client's own.
+fn hold_among(
+    found: &PieceTable<PlainHold>,
+    own: &HeldSpans<PlainHold, SpanList>,
+    piece: PieceId,
+) -> Option<PlainHold>
+    ensures { result ≡ either_hold (hold_of found.now) (held own.now).hold_of piece }
+{
+    match found.get(piece) {
+        Some(hold) => Some(*hold),
+        None => own.get(piece).copied(),
+    }
+}
+
+// Counts one run more of a piece that has a hold, and pins the piece if it is the first.
 fn pin_once<D: SpillDev + Drop>(
-    file: &FileSpans,
+    found: &PieceTable<PlainHold>,
+    own: &HeldSpans<PlainHold, SpanList>,
     piece: PieceId,
     pins: &mut PieceTable<PlainHold>,
     logs: &mut [PlainLog<D>],
 ) -> Result<(), Want>
-    requires there { IsSome (hold_of file.now.held.pieces piece) }
-    requires same { is_some (hold_of pins.old piece) ≡ true
-        → hold_of pins.old piece ≡ hold_of file.now.held.pieces piece }
+    requires there { IsSome (either_hold (hold_of found.now) (held own.now).hold_of piece) }
+    requires same { is_some (hold_of pins.old piece) ≡ true → hold_of pins.old piece
+        ≡ either_hold (hold_of found.now) (held own.now).hold_of piece }
     requires counted { is_some (hold_of pins.old piece) ≡ true → 0 < number_of pins.old piece }
-    requires theirs { AreTheirs (λ h. h.piece) (hold_of file.now.held.pieces) }
+    requires theirs { AreTheirs (λ h. h.piece)
+        (either_hold (hold_of found.now) (held own.now).hold_of) }
     requires number { number_of pins.old piece < 2 ^ 64 - 1 }
-    requires held { hold_of pins.old piece ≡ None → IfSome (hold_of file.now.held.pieces piece)
+    requires held { hold_of pins.old piece ≡ None
+        → IfSome (either_hold (hold_of found.now) (held own.now).hold_of piece)
         (IsHeld logs.old) }
-    requires few { hold_of pins.old piece ≡ None → IfSome (hold_of file.now.held.pieces piece)
+    requires few { hold_of pins.old piece ≡ None
+        → IfSome (either_hold (hold_of found.now) (held own.now).hold_of piece)
         (λ h. (slot_in logs.old h.rank h.slot).count < 2 ^ 64 - 1) }
-    ensures { OnOk result
-        (PinsOnce (hold_of file.now.held.pieces) piece pins.old pins.new logs.old logs.new) }
+    ensures { OnOk result (PinsOnce (either_hold (hold_of found.now) (held own.now).hold_of) piece
+        pins.old pins.new logs.old logs.new) }
 {
     if pins.get(piece).is_some() {
         pins.more(piece);
         return Ok(());
     }
-    let Some(hold) = file.held.get(piece) else {
+    let Some(hold) = hold_among(found, own, piece) else {
         unreachable!()
     };
-    let hold = *hold;
     if let Err((want, _)) = pins.enter(hold) {
         return Err(want);
     }
@@ -53,25 +85,30 @@ fn pin_once<D: SpillDev + Drop>(
     Ok(())
 }
 
-/// A pin of each piece that these runs of a file are of. After want of memory the logs are open.
+/// A pin of each piece that these runs are of, by the holds that were found and the client's own.
+/// After want of memory the logs are open.
 pub fn pin_runs<D: SpillDev + Drop>(
     alloc: Global,
-    file: &FileSpans,
+    found: &PieceTable<PlainHold>,
+    own: &HeldSpans<PlainHold, SpanList>,
     runs: &[Frag],
     logs: &mut [PlainLog<D>],
 ) -> Result<PieceTable<PlainHold>, Want>
-    requires named { All (λ f. IsSome (hold_of file.now.held.pieces f.piece)) runs.now }
-    requires theirs { AreTheirs (λ h. h.piece) (hold_of file.now.held.pieces) }
-    requires slots { HaveSlots logs.old (hold_of file.now.held.pieces) }
+    requires named { All (λ f. IsSome
+        (either_hold (hold_of found.now) (held own.now).hold_of f.piece)) runs.now }
+    requires theirs { AreTheirs (λ h. h.piece)
+        (either_hold (hold_of found.now) (held own.now).hold_of) }
+    requires slots { HaveSlots logs.old (either_hold (hold_of found.now) (held own.now).hold_of) }
     requires once { AreInOneSlot logs.old }
     requires held { AreHeldSlots logs.old }
     requires few { (r i : ℕ) → (slot_in logs.old r i).count < 2 ^ 64 - 1 }
-    ensures { IfOk result (λ pins. ArePins no_count (hold_of file.now.held.pieces) runs.now pins
+    ensures { IfOk result (λ pins. ArePins no_count
+        (either_hold (hold_of found.now) (held own.now).hold_of) runs.now pins
         logs.old logs.new) }
 {
     let mut pins = PieceTable::new(alloc);
     for run in runs {
-        pin_once(file, run.piece, &mut pins, logs)?;
+        pin_once(found, own, run.piece, &mut pins, logs)?;
     }
     Ok(pins)
 }

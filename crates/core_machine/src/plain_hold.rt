@@ -1,6 +1,6 @@
 //! Holds of pieces that lie in the slots of plain logs.
 
-ghost use Rattle.std.specs.Prelude.{◌≡◌, true, None};
+ghost use Rattle.std.specs.Prelude.{◌≡◌, ℕ, true, None};
 
 use fs_types::{Hold, PieceId, PinNo, Rank};
 
@@ -24,6 +24,10 @@ impl Hold for PlainHold {
     ghost bytes = { λ h. h.bytes };
 
     ghost room = { λ _. None };
+
+    ghost Place = { ℕ × ℕ };
+
+    ghost place = { λ h. (h.rank, h.slot) };
 
     fn piece(&self) -> PieceId {
         self.piece

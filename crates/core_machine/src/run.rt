@@ -7,8 +7,8 @@ ghost use Rattle.core_machine.specs.EventsLeft.{events_left};
 ghost use Rattle.core_machine.specs.Moment.{IsFirst, ready};
 ghost use Rattle.core_machine.specs.Step.{step};
 ghost use Rattle.core_machine.specs.Kept.{AreFreshClients};
-ghost use Rattle.core_machine.specs.Follows.{FollowsAt, IsSoundAt, changes_file, changes_path, finds_file, finds_path};
-ghost use Rattle.core_machine.specs.OwnerFiles.{ChangesOne, ChangesOnePath, owned_at};
+ghost use Rattle.core_machine.specs.Follows.{FollowsAt, IsSoundAt};
+ghost use Rattle.core_machine.specs.Books.{path_at};
 ghost use Rattle.core_machine.specs.PathStates.{AreKept, states_of};
 ghost use Rattle.core_machine.specs.Turns.{after_line, going, turns_then, IsInPhase};
 ghost use Rattle.core_machine.specs.MomentKept.{moment_of};
@@ -18,11 +18,11 @@ ghost use Rattle.core_machine.specs.Core.{IsRun, moment, states};
 
 mod report;
 
+use crate::board::{Board, fresh_boards, tell_all};
+use crate::books::{Book, new_books};
+use crate::client_path::{ClientPath, fresh_clients};
 use crate::event;
 use crate::logs::new_logs;
-use crate::owner_files::{FileName, OwnerFiles};
-use crate::owners::{owners_of, tell_all};
-use crate::path_state::{ClientPath, fresh_clients};
 use crate::path_table::PathTable;
 use crate::task::{Task, idle_tasks};
 use crate::turns::Turns;
@@ -40,8 +40,10 @@ pub struct Run<'s, D: SpillDev + Drop> {
     pub alloc: Global,
     pub script: &'s Script,
     pub paths: PathTable,
-    /// What each server keeps for the paths that it owns.
-    pub owners: Vec<OwnerFiles>,
+    /// What each server has of the paths that it owns.
+    pub books: Vec<Book>,
+    /// For each path, at its place in the table, what all clients know of it.
+    pub boards: Vec<Board>,
     /// For each path, at its place in the table, what each client keeps for it, by rank.
     pub clients: Vec<Vec<ClientPath>>,
     /// What each client is in the midst of, by rank.
@@ -106,7 +108,8 @@ pub fn first_run<'s, D: SpillDev + Drop>(
 {
     let shape = s.shape();
     let paths = PathTable::of_script(alloc, s)?;
-    let owners = owners_of(alloc, shape.servers, &paths)?;
+    let books = new_books(alloc, shape.servers)?;
+    let boards = fresh_boards(alloc, paths.len())?;
     let clients = fresh_clients_of(alloc, paths.len(), shape.clients)?;
     let tasks = idle_tasks(alloc, shape.clients)?;
     let mut room = devices;
@@ -117,7 +120,8 @@ pub fn first_run<'s, D: SpillDev + Drop>(
         alloc,
         script: s,
         paths,
-        owners,
+        books,
+        boards,
         clients,
         tasks,
         logs,
@@ -128,63 +132,35 @@ pub fn first_run<'s, D: SpillDev + Drop>(
     })
 }
 
-// The event of line `n` at its path's owner. After want of memory what is kept for the path and for
-// the client, and the logs, are open.
-fn event_at_owner<D: SpillDev + Drop>(
-    alloc: Global,
-    s: &Script,
-    n: LineNo,
-    o: &OpLine,
-    gfid: u64,
-    owner: &mut OwnerFiles,
-    clients: &mut [ClientPath],
-    tasks: &mut [Task],
-    logs: &mut [PlainLog<D>],
-) -> Result<Option<Answer>, Want>
-    requires line { op_at s.now n ≡ Some o.now }
-    requires sound { IsSoundAt (finds_file gfid o.now.path) s.now n o.now.op o.now.rank
-        owner.old clients.old tasks.old logs.old }
-    ensures changes { ChangesOne owner.old owner.new gfid o.now.path }
-    ensures follows { IfOk result (λ a. FollowsAt (finds_file gfid o.now.path)
-        (changes_file gfid o.now.path) s.now n o.now.op o.now.rank owner.old owner.new
-        clients.old clients.new tasks.old tasks.new logs.old logs.new a) }
-{
-    let r = o.rank;
-    let at = r.0 as usize;
-    let own = &mut clients[at];
-    let task = &mut tasks[at];
-    let path = o.path.as_bytes();
-    match owner.files.get_mut(FileName { gfid, path }) {
-        Some(file) => event::event(alloc, s, n, o, file, own, task, logs),
-        None => unreachable!(),
-    }
-}
-
-// The event of line `n`, for whose path the clients keep this. After want of memory what is kept
-// for the path and for the client, and the logs, are open.
+// The event of line `n`, for whose path this is the board, and the clients keep this. After want of
+// memory what is kept for the path and for the client, and the logs, are open.
 fn event_on_path<D: SpillDev + Drop>(
     alloc: Global,
     s: &Script,
     n: LineNo,
     o: &OpLine,
-    owners: &mut [OwnerFiles],
+    books: &mut [Book],
+    board: &mut Board,
     clients: &mut [ClientPath],
     tasks: &mut [Task],
     logs: &mut [PlainLog<D>],
 ) -> Result<Option<Answer>, Want>
     requires line { op_at s.now n ≡ Some o.now }
-    requires servers { length owners.old ≡ s.now.shape.servers }
-    requires sound { IsSoundAt (finds_path o.now.path) s.now n o.now.op o.now.rank
-        owners.old clients.old tasks.old logs.old }
-    ensures changes { ChangesOnePath owners.old owners.new o.now.path }
-    ensures follows { IfOk result (λ a. FollowsAt (finds_path o.now.path)
-        (changes_path o.now.path) s.now n o.now.op o.now.rank owners.old owners.new
+    requires servers { length books.old ≡ s.now.shape.servers }
+    requires sound { IsSoundAt o.now.path s.now n o.now.op o.now.rank
+        books.old board.old clients.old tasks.old logs.old }
+    ensures sized { length books.new ≡ length books.old }
+    ensures follows { IfOk result (λ a. FollowsAt o.now.path s.now n o.now.op o.now.rank
+        books.old books.new board.old board.new
         clients.old clients.new tasks.old tasks.new logs.old logs.new a) }
 {
     let gfid = gfid_of(&o.path);
     let owner = owner_of(gfid, s.shape().servers);
-    let files = &mut owners[owner.0 as usize];
-    event_at_owner(alloc, s, n, o, gfid, files, clients, tasks, logs)
+    let book = &mut books[owner.0 as usize];
+    let r = o.rank;
+    let at = r.0 as usize;
+    let own = &mut clients[at];
+    event::event(alloc, s, n, o, book, gfid, board, own, &mut tasks[at], logs)
 }
 
 // One event of the next line of a client that goes; whether the line was answered. After want of
@@ -193,7 +169,8 @@ fn event_of_line<D: SpillDev + Drop>(
     alloc: Global,
     s: &Script,
     paths: &PathTable,
-    owners: &mut [OwnerFiles],
+    books: &mut [Book],
+    boards: &mut [Board],
     clients: &mut [Vec<ClientPath>],
     tasks: &mut [Task],
     logs: &mut [PlainLog<D>],
@@ -201,25 +178,28 @@ fn event_of_line<D: SpillDev + Drop>(
     turns: &Turns<'_>,
     r: Rank,
 ) -> Result<bool, Want>
-    requires kept { AreKept s.now.shape.servers paths.now owners.old clients.old }
-    requires holds { Holds s.now paths.now (states_of (owned_at owners.old) paths.now clients.old)
+    requires kept { AreKept s.now.shape.servers paths.now books.old boards.old clients.old }
+    requires holds { Holds s.now paths.now
+        (states_of (path_at books.old) paths.now boards.old clients.old)
         answers.old turns.now tasks.old logs.old }
     requires going { Contains (going turns.now) r }
-    ensures kept { AreKept s.now.shape.servers paths.now owners.new clients.new }
+    ensures kept { AreKept s.now.shape.servers paths.now books.new boards.new clients.new }
     ensures sized { length logs.new ≡ length logs.old }
-    ensures holds { IfOk result (λ ended.
-        Holds s.now paths.now (states_of (owned_at owners.new) paths.now clients.new)
+    ensures holds { IfOk result (λ ended. Holds s.now paths.now
+        (states_of (path_at books.new) paths.now boards.new clients.new)
         answers.new (turns_then ended r turns.now) tasks.new logs.new) }
-    ensures step { IfOk result (λ ended.
-        moment_of s.now paths.now (states_of (owned_at owners.new) paths.now clients.new)
+    ensures step { IfOk result (λ ended. moment_of s.now paths.now
+        (states_of (path_at books.new) paths.now boards.new clients.new)
         answers.new (turns_then ended r turns.now) tasks.new logs.new false
-        ≡ step (moment_of s.now paths.now (states_of (owned_at owners.old) paths.now clients.old)
+        ≡ step (moment_of s.now paths.now
+        (states_of (path_at books.old) paths.now boards.old clients.old)
         answers.old turns.now tasks.old logs.old false) (record { client = r })) }
 {
     let n = turns.next(r);
     let o = operation(s, n);
     let i = place(paths, &o.path);
-    match event_on_path(alloc, s, n, o, owners, &mut clients[i], tasks, logs)? {
+    let kept = &mut clients[i];
+    match event_on_path(alloc, s, n, o, books, &mut boards[i], kept, tasks, logs)? {
         Some(answer) => {
             answers.set(n, answer);
             Ok(true)
@@ -231,14 +211,14 @@ fn event_of_line<D: SpillDev + Drop>(
 // Goes on to the next line of a client, and where that begins a phase, tells all clients of every
 // path.
 fn go_on<D: SpillDev + Drop>(run: &mut Run<'_, D>, r: Rank)
-    requires kept { AreKept run.old.script.now.shape.servers run.old.paths run.old.owners.items
-        run.old.clients.items }
+    requires kept { AreKept run.old.script.now.shape.servers run.old.paths run.old.books.items
+        run.old.boards.items run.old.clients.items }
     requires going { Contains (going run.old.turns) r }
     requires holds { Holds run.old.script.now run.old.paths (states run.old) run.old.answers
         (after_line run.old.turns r) run.old.tasks.items run.old.logs.items }
     requires unspent { run.old.spent ≡ false }
-    ensures kept { AreKept run.new.script.now.shape.servers run.new.paths run.new.owners.items
-        run.new.clients.items }
+    ensures kept { AreKept run.new.script.now.shape.servers run.new.paths run.new.books.items
+        run.new.boards.items run.new.clients.items }
     ensures phases { IsInPhase run.new.turns }
     ensures holds { Holds run.new.script.now run.new.paths (states run.new) run.new.answers
         run.new.turns run.new.tasks.items run.new.logs.items }
@@ -246,10 +226,10 @@ fn go_on<D: SpillDev + Drop>(run: &mut Run<'_, D>, r: Rank)
     ensures moment { moment run.new
         ≡ moment_of run.old.script.now run.old.paths (states run.old) run.old.answers
         (after_line run.old.turns r) run.old.tasks.items run.old.logs.items false }
-    ensures rest { run.new ≡ record run.old { owners = run.new.owners; turns = run.new.turns } }
+    ensures rest { run.new ≡ record run.old { boards = run.new.boards; turns = run.new.turns } }
 {
     if run.turns.advance(r) {
-        tell_all(&mut run.owners);
+        tell_all(&mut run.boards);
     }
 }
 
@@ -266,7 +246,8 @@ pub fn advance<D: SpillDev + Drop>(run: &mut Run<'_, D>, r: Rank) -> Result<(), 
         run.alloc,
         run.script,
         &run.paths,
-        &mut run.owners,
+        &mut run.books,
+        &mut run.boards,
         &mut run.clients,
         &mut run.tasks,
         &mut run.logs,

@@ -20,8 +20,10 @@ some_event ops.Create nothing = omega arith
 some_event ops.Open nothing = omega arith
 some_event (ops.Write off text) nothing = omega arith
 some_event ops.Sync nothing = omega arith
-some_event (ops.Read off len) nothing = omega arith
+some_event (ops.Read off len own) nothing = omega arith
 some_event ops.Size nothing = omega arith
+some_event (ops.Trunc n) nothing = omega arith
+some_event ops.Unlink nothing = omega arith
 some_event op (reading d) = omega arith
 
 -- what is left of a line, and of the lines after it

@@ -1,8 +1,8 @@
 -- One event keeps a moment legal: each invariant after it, by whether it brings an answer.
-use Rattle.fs_types.proofs.Common.{common_steps, ◌≡◌, ◌≢◌, ℕ, ◌<◌, Bool, true, false, ◌||◌, cond, List, length, map, Option, Some, None}
+use Rattle.fs_types.proofs.Common.{common_steps, ◌≡◌, ◌≢◌, ℕ, ◌<◌, Bool, true, false, cond, List, length, map, Option, Some, None}
 use Rattle.fs_types.proofs.Common.{IsSome}
 use Rattle.fs_types.proofs.Common.{is_some, Contains, refl, sym, ap, ◌∙◌, subst, inl, inr, ◌⊎◌, arith, cases_eq, or_cases, or_left}
-use Rattle.fs_types.proofs.Common.{length-map-range_with_len, ◌≤◌, true≢false, slice_get, same_Some}
+use Rattle.fs_types.proofs.Common.{or_right, length-map-range_with_len, ◌≤◌, true≢false, slice_get, same_Some}
 use Rattle.fs_script.specs.Payload.{bytes_brought, brought_in}
 use Rattle.fs_script.specs.Vocabulary.{Answer, Piece, answer_at, put_answer, op_at, phase, Answering, pending, commit_of, commit_by}
 use Rattle.fs_script.specs.Vocabulary.{journal_of}
@@ -11,12 +11,12 @@ use Rattle.fs_script.specs.Vocabulary.{Fits, parts_of, program}
 use Rattle.core_machine.specs.Vocabulary.{Doing, Reading, nothing, reading, Moment, printed, answering, client_of, journal, log_of}
 use Rattle.core_machine.specs.Vocabulary.{with_entry, ready}
 use Rattle.core_machine.specs.Vocabulary.{Event, Turn, event_at, still_held, had_event, step, IsAnsweredUpTo, IsUnderWay, MayGoOn}
-use Rattle.core_machine.specs.Vocabulary.{IsLegalMoment, names, empty_slots, to_show}
+use Rattle.core_machine.specs.Vocabulary.{IsLegalMoment, is_owned, names, empty_slots, to_show}
 use Rattle.fs_types.proofs.CallerLemmas.{IsRisingFrom-put_answer}
 use Rattle.fs_script.proofs.CallerLemmas.{pending-agree, AddsAnswer-put, AgreeBefore-next, IsLegalSoFar-kept, IsLegalSoFar-commit}
 use Rattle.fs_script.proofs.CallerLemmas.{is_live-agree}
-use Rattle.fs_script.proofs.CallerLemmas.{is_live-next, is_pending-next, pending_at-in_journal, live-by_any_path, Fits-kept_other}
-use Rattle.fs_script.proofs.CallerLemmas.{Fits-commit_other}
+use Rattle.fs_script.proofs.CallerLemmas.{is_live-next, is_pending-next, is_pending-now, pending_at-in_journal, live-by_any_path}
+use Rattle.fs_script.proofs.CallerLemmas.{Fits-kept_other, Fits-commit_other}
 use Rattle.core_machine.proofs.Legal.Event.{now, IsLegalAnswer, IsLegalOutcome, MayShow, keeps, not_done}
 use Rattle.core_machine.proofs.Legal.Events.{event_of-legal}
 use Rattle.core_machine.proofs.Legal.Journals.{paths-with_entry, Pushes-with_entry}
@@ -44,7 +44,7 @@ module _ {told : List ℕ} {m : Moment} {r : ℕ} (t : IsTurn told m r) where
 
   -- what the event does to slots, where its client is in the midst of that
   abbrev Measured : Event → Type 0
-  Measured e = IsMeasured (now (coming t)) m.job.shape.chunk o.op doing_now e
+  Measured e = IsMeasured m.job (now (coming t)) o.op doing_now e
 
   room-of : (e : Event) → Measured e → e.fills ≡ true → need m.job n ≤ length (empty_slots (log_of m r))
   room-of e measured fills =
@@ -52,11 +52,17 @@ module _ {told : List ℕ} {m : Moment} {r : ℕ} (t : IsTurn told m r) where
       let needs : need m.job n ≡ need_of chunk o.op = ap (λ x. parts_of chunk (length (bytes_brought (brought_in x)))) is in
       subst (λ q. need m.job n ≤ length (empty_slots (log_of m q))) t.rank (omega (arith, measured.room fills, needs))
 
-  named-of : (e : Event) → Measured e → (x : Piece) → names e.doing x ≡ true
-      → (names doing_now x ≡ true) ⊎ (is_live m.job (answering m) (journal m) x ≡ true)
+  -- the read of its client names what it named before, or what is live or pending for the client
+  named-of : (e : Event) → Measured e → (x : Piece) → names e.doing x ≡ true → (names doing_now x ≡ true) ⊎ (is_owned m r x ≡ true)
   named-of e measured x named = elim (or_cases _ _ (measured.named x named)) [
     | inl before ↦ inl before
-    | inr borne ↦ inr (live-by_any_path m.job (answering m) (journal m) o.path x (so_far.legal.legal o.path) borne)
+    | inr borne ↦ elim (or_cases _ _ borne) [
+      | inl in_file ↦
+          inr (or_left _ _ (live-by_any_path m.job (answering m) (journal m) o.path x (so_far.legal.legal o.path) in_file))
+      | inr waits ↦
+          let is_waiting = is_pending-now is (comes_next t) so_far.job.chunk o.path x waits in
+          inr (or_right _ _ (subst (λ i. is_pending m.job (answering m) i x ≡ true) t.rank is_waiting))
+    ]
   ]
 
 -- ---- an event that brings no answer
@@ -187,11 +193,8 @@ module _ {told : List ℕ} {m : Moment} {r : ℕ} (t : IsTurn told m r) (a : Ans
       goes_on t i d other w (ends false fills) still_answered
       (Fits-kept_other next_answer so_far.legal w.op (of_another t i d other w) w.line _ w.fits)
 
-  live-before : (committed : Bool) (x : Piece) → is_live m.job B (journal_of (journals_after committed)) x ≡ true
-      → (is_live m.job (answering m) (journal m) x || is_pending m.job (answering m) r x) ≡ true
-  live-before true x live =
-      subst (λ i. (is_live m.job (answering m) (journal m) x || is_pending m.job (answering m) i x) ≡ true) t.rank
-      (is_live-next next_answer so_far.legal.legal pushes x live)
+  live-before : (committed : Bool) (x : Piece) → is_live m.job B (journal_of (journals_after committed)) x ≡ true → is_owned m r x ≡ true
+  live-before true x live = subst (λ i. is_owned m i x ≡ true) t.rank (is_live-next next_answer so_far.legal.legal pushes x live)
   live-before false x live =
       or_left _ _ (is_live-agree m.job (answering m) B (journal m) x (λ p. pending_at-in_journal adds (comes_next t) (so_far.legal.legal p))
       ∙ live)
@@ -270,7 +273,7 @@ step-legal {told} {m} turn so_far has =
     let doing = λ (q : ℕ). (client_of m q).doing in
     let may = may_show t (doing turn.client) (so_far.under_way turn.client (within_clients t)) in
     let own = subst (λ q. MayShow (coming t) t.line.op (doing q)) (sym t.rank) may in
-    let fills = subst (λ q. IsMeasured (now (coming t)) m.job.shape.chunk t.line.op (doing q) e) t.rank
+    let fills = subst (λ q. IsMeasured m.job (now (coming t)) t.line.op (doing q) e) t.rank
     (event_of-measured m.job (now (coming t)) (doing t.line.rank) t.line.op) in
     subst (IsLegalMoment told) (sym (step-is t))
     (after_event-legal t e.answer e.commits e.fills e.doing fills (event_of-legal (coming t) (doing t.line.rank) t.line.op own))

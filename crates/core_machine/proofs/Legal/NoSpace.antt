@@ -6,9 +6,11 @@ use Rattle.fs_types.specs.declared.answer.Answer.TheVariants as answers
 use Rattle.fs_script.specs.declared.line.Op.TheVariants as ops
 use Rattle.fs_script.specs.Payload.{bytes_brought, write_of}
 use Rattle.fs_script.specs.Vocabulary.{File, Job, LONGEST_FILE, Mark, Range, Write, brought, has_any, parts_of, range_of, runs}
+use Rattle.fs_script.specs.Vocabulary.{marks_in, view_of}
 use Rattle.core_machine.specs.Vocabulary.{Data, Op, Doing, Reading, nothing, reading, Event, PathNow}
 use Rattle.core_machine.specs.Vocabulary.{event_of, answered, committed_as, wrote_into, goes_on_reading, if_open, create_over, lookup_over}
-use Rattle.core_machine.specs.Vocabulary.{fetch_event, sync_over, to_show, write_where_free, write_within, write_at_front}
+use Rattle.core_machine.specs.Vocabulary.{fetch_event, sync_over, to_show, trunc_over, unlink_over}
+use Rattle.core_machine.specs.Vocabulary.{write_where_free, write_within, write_at_front}
 use Rattle.core_machine.specs.Events.Open.{open_over}
 use Rattle.core_machine.specs.Events.Size.{size_over}
 use Rattle.core_machine.specs.RunLaws.{AsksForSlots}
@@ -70,9 +72,22 @@ module _ (w : PathNow) (needed left : ℕ) where
         | inr none ↦ cc none.1
       ]
 
-  read-never : (s : Job) (d : Doing) (off len : ℕ) → IsRefused (event_of s w d (ops.Read off len)) → ⊥
-  read-never s nothing off len is = lookup-never w.marks (range_of off len) (opened-from _ is).1
-  read-never s (reading d) off len is = fetch-never s d is
+  trunc-never : (f : File ℕ) → IsRefused (trunc_over w f) → ⊥
+  trunc-never None is = cc is
+  trunc-never (Some f) is =
+      elim (by_case f.frozen (answered (answers.ReadOnly w.version)) (committed_as (w.version + 1)) _ is) [
+        | inl frozen ↦ cc frozen.1
+        | inr free ↦ cc free.1
+      ]
+
+  unlink-never : (f : File ℕ) → IsRefused (unlink_over w f) → ⊥
+  unlink-never None is = cc is
+  unlink-never (Some f) is = cc is
+
+  read-never : (s : Job) (d : Doing) (off len : ℕ) (own : Bool) → IsRefused (event_of s w d (ops.Read off len own)) → ⊥
+  read-never s nothing off len own is =
+      lookup-never (view_of s (marks_in s) own w.pending w.marks) (range_of off len own) (opened-from _ is).1
+  read-never s (reading d) off len own is = fetch-never s d is
 
   -- ---- a write
 
@@ -128,8 +143,10 @@ module _ (w : PathNow) (needed left : ℕ) where
   asks-from s d ops.Open is = absurd (open-never w.file is)
   asks-from s d (ops.Write off text) is = write-from s d off text is
   asks-from s d ops.Sync is = absurd (sync-never w.file (opened-from _ is).1)
-  asks-from s d (ops.Read off len) is = absurd (read-never s d off len is)
+  asks-from s d (ops.Read off len own) is = absurd (read-never s d off len own is)
   asks-from s d ops.Size is = absurd (size-never w.file (opened-from _ is).1)
+  asks-from s d (ops.Trunc n) is = absurd (trunc-never w.file (opened-from _ is).1)
+  asks-from s d ops.Unlink is = absurd (unlink-never w.file (opened-from _ is).1)
 
   -- ---- and back
 
@@ -152,5 +169,7 @@ module _ (w : PathNow) (needed left : ℕ) where
   refused-from s d ops.Open asks lacks = absurd (cc asks.brings)
   refused-from s d (ops.Write off text) asks lacks = write-refused s d off text asks lacks
   refused-from s d ops.Sync asks lacks = absurd (cc asks.brings)
-  refused-from s d (ops.Read off len) asks lacks = absurd (cc asks.brings)
+  refused-from s d (ops.Read off len own) asks lacks = absurd (cc asks.brings)
   refused-from s d ops.Size asks lacks = absurd (cc asks.brings)
+  refused-from s d (ops.Trunc n) asks lacks = absurd (cc asks.brings)
+  refused-from s d ops.Unlink asks lacks = absurd (cc asks.brings)

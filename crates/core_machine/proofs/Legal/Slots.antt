@@ -1,6 +1,6 @@
 -- The slots of each client's log after an event: those that hold a piece that is held then, and no others. A piece that is held
 -- then was held before, or is one of the line's own that went into a slot.
-use Rattle.fs_types.proofs.Common.{◌≡◌, ◌≢◌, ℕ, ◌+◌, ◌≤◌, ◌<◌, true, ◌||◌, cond, nat_lt, List, map, length, slice_get, slice_set}
+use Rattle.fs_types.proofs.Common.{◌≡◌, ◌≢◌, ℕ, ◌+◌, ◌≤◌, ◌<◌, true, cond, nat_lt, List, map, length, slice_get, slice_set}
 use Rattle.fs_types.proofs.Common.{Option}
 use Rattle.fs_types.proofs.Common.{Some, None, Contains, ◌⊎◌, inl, inr, refl, sym, ap, ◌∙◌, subst, arith, cases_eq, cases_Bool, or_cases}
 use Rattle.fs_types.proofs.Common.{or_left, or_right}
@@ -35,17 +35,15 @@ pub record IsPut {told : List ℕ} {m : Moment} {r : ℕ} (t : IsTurn told m r) 
 
 -- Slots are filled where there is room, by a line whose bytes are accepted, and no other answer comes. What is live then was
 -- live, or pending for the line's client; what is pending was, or goes into a slot. What the client's read names it named
--- before, or it is live.
+-- before, or it was live or pending for the client.
 pub record IsKeeping {told : List ℕ} {m : Moment} {r : ℕ} (t : IsTurn told m r) (e : Event) : Type 0 where
   pub room : e.fills ≡ true → need m.job t.number ≤ length (empty_slots (log_of m r))
   pub accepted : e.fills ≡ true → was_accepted (answering (after t e) t.number) ≡ true
   pub others : (k : ℕ) → k ≢ t.number → answering (after t e) k ≡ answering m k
-  pub live : (x : Piece) → is_live m.job (answering (after t e)) (journal (after t e)) x ≡ true
-      → (is_live m.job (answering m) (journal m) x || is_pending m.job (answering m) r x) ≡ true
+  pub live : (x : Piece) → is_live m.job (answering (after t e)) (journal (after t e)) x ≡ true → is_owned m r x ≡ true
   pub pending : (q : ℕ) (x : Piece) → is_pending m.job (answering (after t e)) q x ≡ true
       → (is_pending m.job (answering m) q x ≡ true) ⊎ IsPut t e q x
-  pub named : (x : Piece) → names e.doing x ≡ true
-      → (names (client_of m r).doing x ≡ true) ⊎ (is_live m.job (answering m) (journal m) x ≡ true)
+  pub named : (x : Piece) → names e.doing x ≡ true → (names (client_of m r).doing x ≡ true) ⊎ (is_owned m r x ≡ true)
 
 -- ---- the logs once slots were filled
 
@@ -113,6 +111,17 @@ module _ {told : List ℕ} {m : Moment} {r : ℕ} (t : IsTurn told m r) (e : Eve
 
   -- ---- pieces that are held then
 
+  -- a piece of client q's lines that was live, or pending for the line's client, was held
+  owned_before : (q : ℕ) (x : Piece) → Contains (pieces_by m.job q) x → is_owned m r x ≡ true → 0 < holds_of m q x
+  owned_before q x has owned = elim (or_cases _ _ owned) [
+    | inl live ↦ owned-holds m q x (or_left _ _ live)
+    | inr waits ↦
+        let part = (IsPart-pending m.job t.so_far.job.chunk (answering m) r x waits).1 in
+        let mine = own_op-rank r _ (op_at m.job x.line) part.line.own in
+        let same = same_Some r q (sym mine ∙ (IsPartOf-from_pieces m.job q x has).line) in
+        owned-holds m q x (or_right _ _ (subst (λ i. is_pending m.job (answering m) i x ≡ true) same waits))
+  ]
+
   -- as many reads name a piece as before, but for the client's own
   readers-after : (x : Piece) → readers_of had x + cond (names (client_of m r).doing x) 1 0 ≡ readers_of m x + cond (names e.doing x) 1 0
   readers-after x =
@@ -123,14 +132,7 @@ module _ {told : List ℕ} {m : Moment} {r : ℕ} (t : IsTurn told m r) (e : Eve
       → (0 < holds_of m q x) ⊎ IsPut t e q x
   held_before keeping q x has held = elim (cases_Bool (is_owned had q x)) [
     | inl owned ↦ elim (or_cases _ _ owned) [
-      | inl live ↦ elim (or_cases _ _ (keeping.live x live)) [
-        | inl before ↦ inl (owned-holds m q x (or_left _ _ before))
-        | inr waits ↦
-            let part = (IsPart-pending m.job t.so_far.job.chunk (answering m) r x waits).1 in
-            let mine = own_op-rank r _ (op_at m.job x.line) part.line.own in
-            let same = same_Some r q (sym mine ∙ (IsPartOf-from_pieces m.job q x has).line) in
-            inl (owned-holds m q x (or_right _ _ (subst (λ i. is_pending m.job (answering m) i x ≡ true) same waits)))
-      ]
+      | inl live ↦ inl (owned_before q x has (keeping.live x live))
       | inr waits ↦ elim (keeping.pending q x waits) [
         | inl before ↦ inl (owned-holds m q x (or_right _ _ before))
         | inr put ↦ inr put
@@ -146,7 +148,7 @@ module _ {told : List ℕ} {m : Moment} {r : ℕ} (t : IsTurn told m r) (e : Eve
                 let one : one_if (names (client_of m r).doing x) ≡ 1 = ap one_if before in
                 let one_then : one_if (names e.doing x) ≡ 1 = ap one_if named in
                 inl (omega arith)
-            | inr live ↦ inl (owned-holds m q x (or_left _ _ live))
+            | inr owned ↦ inl (owned_before q x has owned)
           ]
         ]
   ]

@@ -13,18 +13,18 @@ use Rattle.core_machine.proofs.Refines.Owners.{IsNewAnswer, grown, length-grown,
 
 -- the owner's journal after an event is the one before, perhaps with the line at its end
 pub record Grows (n : ℕ) (commits : Bool) (x y : OwnedPath) : Type 0 where
-  pub journal : y.journal.items ≡ grown x.journal.items n commits
+  pub journal : y.path.journal ≡ grown x.path.journal n commits
 
 -- ---- a client whose line it isn't, on this path
 
 pub StandsForClient-other : {s : Job} {A B : Answering} {now n : ℕ} {o : OpLine} {a : Answer} {commits : Bool} {r : ℕ} {p : List ℕ}
     {x y : OwnedPath} {k : ClientPath} → IsNewAnswer s A now n o a B
     → own_at s r p n ≡ None → Grows n commits x y
-    → ((q : Piece) → is_some (pending_hold k q) ≡ true → file_hold y.file q ≡ None) → StandsForOwner s A now p x
+    → ((q : Piece) → is_some (pending_hold k q) ≡ true → file_hold y.path.file q ≡ None) → StandsForOwner s A now p x
     → StandsForClient s A r p x k → StandsForClient s B r p y k
 StandsForClient-other {s} {A} {B} {n = n} {a = a} {commits} {r} {p} {x} {k = k} h none grows apart owned stands =
     let agree = AgreeBefore-elsewhere s r p A B n a (past_lines s) h.adds none in
-    let longer = length-grown x.journal.items n commits in
+    let longer = length-grown x.path.journal n commits in
     record {
       opened = stands.opened ∙ over_answers-agree _ _ s r p A B (past_lines s) agree;
       pending = stands.pending ∙ over_answers-agree _ _ s r p A B (past_lines s) agree;
@@ -33,7 +33,7 @@ StandsForClient-other {s} {A} {B} {n = n} {a = a} {commits} {r} {p} {x} {k = k} 
       apart = apart;
       seen = stands.seen ∙ over_answers-agree _ _ s r p A B (past_lines s) agree;
       within = (let size = ap length grows.journal in let was = stands.within in omega arith);
-      known = stands.known ∙ ap known_of (marks-grown x.journal.items k.noted.version commits h.adds h.next owned.answered stands.within
+      known = stands.known ∙ ap known_of (marks-grown x.path.journal k.noted.version commits h.adds h.next owned.answered stands.within
           ∙ ap (λ (j : List ℕ). marks_at s B j k.noted.version) (sym grows.journal));
     }
 
@@ -62,18 +62,18 @@ pub StandsForClient-own : {s : Job} {A B : Answering} {now n : ℕ} {o : OpLine}
     {k l : ClientPath} → IsNewAnswer s A now n o a B → IsOwn s A o.rank o.path n o
     → Follows s n o.op t e x k y l a → AreSound s y l
     → (e.fills ≡ true → (q : Piece) → is_some (pending_hold l q) ≡ true → q.line ≡ n → q.part < need s n)
-    → StandsForOwner s A now o.path x → StandsForOwner s B now o.path y → LookedUpWithin t (length x.journal.items)
-    → KnowsLookedUp (λ v. known_of (marks_at s A x.journal.items v)) t → StandsForClient s A o.rank o.path x k
+    → StandsForOwner s A now o.path x → StandsForOwner s B now o.path y → LookedUpWithin t (length x.path.journal)
+    → KnowsLookedUp (λ v. known_of (marks_at s A x.path.journal v)) t → StandsForClient s A o.rank o.path x k
     → StandsForClient s B o.rank o.path y l
 StandsForClient-own {s} {A} {B} {now} {n} {o} {t} {e} {a} {x} {y} {k} {l} h own follows sound parts owned owns within looked stands =
-    let J = x.journal.items in
+    let J = x.path.journal in
     let commits = e.commits in
-    let told : x.board.version ≤ length J = subst (λ v. v ≤ length J) (sym owned.board) (told-within s J now) in
-    let at = λ (v : ℕ). known_of (marks_at s B y.journal.items v) in
+    let told : x.board.told.version ≤ length J = subst (λ v. v ≤ length J) (sym owned.told) (told-within s J now) in
+    let at = λ (v : ℕ). known_of (marks_at s B y.path.journal v) in
     let at_old : (v : ℕ) → v ≤ length J → known_of (marks_at s A J v) ≡ at v =
     λ v le. ap known_of (marks-grown J v commits h.adds h.next owned.answered le
     ∙ ap (λ (j : List ℕ). marks_at s B j v) (sym follows.journal)) in
-    let board : known_from y.board ≡ at y.board.version = owns.known in
+    let board : known_from y.board.told ≡ at y.board.told.version = owns.known in
     let knows : Knows at y k = record {
       noted = stands.known ∙ at_old k.noted.version stands.within;
       board = board;
@@ -100,10 +100,10 @@ StandsForClient-own {s} {A} {B} {now} {n} {o} {t} {e} {a} {x} {y} {k} {l} h own 
       known = follows.known at knows (looked-then t);
     }
   where
-    looked-then : (u : Task) → KnowsLookedUp (λ v. known_of (marks_at s B y.journal.items v)) t
+    looked-then : (u : Task) → KnowsLookedUp (λ v. known_of (marks_at s B y.path.journal v)) t
     looked-then u = by t within looked where
-      by : (u : Task) → LookedUpWithin u (length x.journal.items) → KnowsLookedUp (λ v. known_of (marks_at s A x.journal.items v)) u
-          → KnowsLookedUp (λ v. known_of (marks_at s B y.journal.items v)) u
+      by : (u : Task) → LookedUpWithin u (length x.path.journal) → KnowsLookedUp (λ v. known_of (marks_at s A x.path.journal v)) u
+          → KnowsLookedUp (λ v. known_of (marks_at s B y.path.journal v)) u
       by Idle le is = tt
-      by (Read d) le is = is ∙ ap known_of (marks-grown x.journal.items d.version e.commits h.adds h.next owned.answered le
+      by (Read d) le is = is ∙ ap known_of (marks-grown x.path.journal d.version e.commits h.adds h.next owned.answered le
           ∙ ap (λ (j : List ℕ). marks_at s B j d.version) (sym follows.journal))

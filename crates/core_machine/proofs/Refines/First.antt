@@ -11,7 +11,7 @@ use Rattle.fs_script.specs.Grammar.{IsJob, IsShape}
 use Rattle.fs_script.specs.declared.shape.Shape.{Shape}
 use Rattle.fs_script.proofs.CallerLemmas.{IsOpLine-from_job}
 use Rattle.core_machine.specs.Logs.{fresh_log, fresh_logs}
-use Rattle.core_machine.specs.Vocabulary.{Noted, OwnedPath, ClientPath, PathState, Task, Idle, IsFreshOwner, IsFreshClient, IsFreshPath}
+use Rattle.core_machine.specs.Vocabulary.{OwnedPath, ClientPath, PathState, Task, Idle, fresh_owned, IsFreshClient, IsFreshPath}
 use Rattle.core_machine.specs.Vocabulary.{CanRun, IsFirst, Places}
 use Rattle.core_machine.specs.Vocabulary.{clients_of, file_hold, file_marks, fresh_client, known_from, known_of, holds_of, moment_of}
 use Rattle.core_machine.specs.Vocabulary.{pending_lines, piece_in, pieces_in, slot_in}
@@ -40,21 +40,21 @@ no_spill {h} is =
 abbrev none : Answering
 none = answer_at []
 
-no_file : (x : OwnedPath) (q : Piece) → x.file ≡ None → is_some (file_hold x.file q) ≡ true → ⊥
+no_file : (x : OwnedPath) (q : Piece) → x.path.file ≡ None → is_some (file_hold x.path.file q) ≡ true → ⊥
 no_file x q none held = true≢false (sym held ∙ ap (λ f. is_some (file_hold f q)) none)
 
-owner-fresh : (s : Job) (now : ℕ) (p : List ℕ) {x : OwnedPath} → IsFreshOwner x → StandsForOwner s none now p x
-owner-fresh s now p {x} fresh = record {
-  answered = rw fresh.journal tt;
-  written = rw fresh.file tt;
-  marks = ap file_marks fresh.file ∙ sym (ap (λ (j : List ℕ). marks_at s none j (length j)) fresh.journal);
-  pieces = λ q held. absurd (no_file x q fresh.file held);
-  board = rw (fresh.board, fresh.journal) refl;
-  known = ap known_from fresh.board ∙ sym (ap known_of (ap (λ (j : List ℕ). marks_at s none j x.board.version) fresh.journal
-      ∙ ap (λ (b : Noted). marks_at s none [] b.version) fresh.board));
-}
+owner-fresh : (s : Job) (now : ℕ) (p : List ℕ) {x : OwnedPath} → x ≡ fresh_owned → StandsForOwner s none now p x
+owner-fresh s now p fresh = subst (StandsForOwner s none now p) (sym fresh) (record {
+  answered = tt;
+  written = tt;
+  marks = refl;
+  pieces = λ q held. absurd (no_file fresh_owned q refl held);
+  board = refl;
+  told = refl;
+  known = refl;
+})
 
-client-fresh : (s : Job) (r : ℕ) (p : List ℕ) {x : OwnedPath} {k : ClientPath} → IsFreshOwner x → IsFreshClient k
+client-fresh : (s : Job) (r : ℕ) (p : List ℕ) {x : OwnedPath} {k : ClientPath} → x ≡ fresh_owned → IsFreshClient k
     → StandsForClient s none r p x k
 client-fresh s r p {x} {k} owned fresh = record {
   opened = fresh.is_open ∙ sym (over_answers-until _ _ s r p none 0 (past_lines s) (omega arith) (λ _ _ _. refl));
@@ -65,7 +65,7 @@ client-fresh s r p {x} {k} owned fresh = record {
   apart = λ q waits. absurd (true≢false (sym waits ∙ ap is_some (fresh.pending.holds q)));
   seen = ap (λ n. n.version) fresh.noted ∙ sym (over_answers-until _ _ s r p none 0 (past_lines s) (omega arith) (λ _ _ _. refl));
   within = (let start = ap (λ n. n.version) fresh.noted in omega arith);
-  known = rw (owned.journal, fresh.noted) refl;
+  known = rw (ap (λ (y : OwnedPath). y.path.journal) owned, fresh.noted) refl;
 }
 
 path-fresh : (s : Job) (now : ℕ) (p : List ℕ) {x : PathState} → IsFreshPath s.shape.clients x → Stands s none now p x
@@ -154,7 +154,7 @@ Holds-first {s} {paths} states answers turns tasks logs ds job named sized fresh
   path_holds = λ i x there.
       let path = fresh-path i x there in
       record {
-        files = λ q h held. absurd (no_file x.owned q path.owned.file (ap is_some held));
+        files = λ q h held. absurd (no_file x.owned q (ap (λ (y : OwnedPath). y.path.file) path.owned) (ap is_some held));
         pending = λ r k at q h held.
             let client = subst IsFreshClient (get_or_from_slice_get x.clients r k k at) (path.clients r k (slice_get_within x.clients r k at)) in
             absurd (true≢false (sym (ap is_some held) ∙ ap is_some (client.pending.holds q)));
@@ -178,7 +178,7 @@ fresh-journals : (clients : ℕ) (ps : List (List ℕ)) (xs : List PathState) �
     → AllByRecursion (λ j. j.1 ≡ []) (zip ps (map journal_kept xs))
 fresh-journals clients [] xs fresh = tt
 fresh-journals clients (p ∷ ps) [] fresh = tt
-fresh-journals clients (p ∷ ps) (x ∷ xs) fresh = (fresh.0.owned.journal, fresh-journals clients ps xs fresh.1)
+fresh-journals clients (p ∷ ps) (x ∷ xs) fresh = (ap (λ (y : OwnedPath). y.path.journal) fresh.0.owned, fresh-journals clients ps xs fresh.1)
 
 clients-first : (n : ℕ) → clients_of (replicate n 0) (replicate n Idle) ≡ replicate n fresh_client
 clients-first zero = refl

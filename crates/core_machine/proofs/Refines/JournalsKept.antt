@@ -34,7 +34,7 @@ with_entry-zip p n (q ∷ qs) (k ∷ ks) (suc i) j rising at is =
     rw other (ap (λ rest. (q, k) ∷ rest) (with_entry-zip p n qs ks i j rising.1 at is))
 
 abbrev pub journal_kept : PathState → List ℕ
-journal_kept x = x.owned.journal.items
+journal_kept x = x.owned.path.journal
 
 -- the journals that are kept, as the place of the line's path is changed
 pub journals_of-set : (paths : List (List ℕ)) (states : List PathState) (p : List ℕ) (n i : ℕ) (x y : PathState) (commits : Bool)

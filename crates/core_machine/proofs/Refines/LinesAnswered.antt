@@ -20,8 +20,8 @@ module _ {s : Job} {paths : List (List ℕ)} {states : List PathState} {answers 
     {logs : List Log} {r : ℕ} (t : Stepped s paths states answers turns tasks logs r) where
   -- each version of a journal has the same file then
   pub record KeepsVersions (x y : OwnedPath) : Type 0 where
-    pub longer : length x.journal.items ≤ length y.journal.items
-    pub same : (v : ℕ) → v ≤ length x.journal.items → marks_at s (given t) x.journal.items v ≡ marks_at s (given_then t) y.journal.items v
+    pub longer : length x.path.journal ≤ length y.path.journal
+    pub same : (v : ℕ) → v ≤ length x.path.journal → marks_at s (given t) x.path.journal v ≡ marks_at s (given_then t) y.path.journal v
 
   -- after the event what is kept stands for the answers then
   pub record PathsAfter : Type 0 where
@@ -98,14 +98,14 @@ module _ {s : Job} {paths : List (List ℕ)} {states : List PathState} {answers 
     own_pieces q waits = (client_stood t).pieces q waits
 
     owner-after : StandsForOwner s (given_then t) turns.phase t.line.path t.then.owned
-    owner-after = StandsForOwner-own is_answer (pends t) follows t.whole.sound.written (stood t).owned own_pieces
+    owner-after = StandsForOwner-own is_answer (pends t) follows t.whole.sound.written t.whole.sound.board (stood t).owned own_pieces
 
     -- what another client has pending isn't in the file
     others_apart : (q : ℕ) (k : ClientPath) → q ≢ r → slice_get t.was.clients q ≡ Some k → (x : Piece) → is_some (pending_hold k x) ≡ true
-        → file_hold t.then.owned.file x ≡ None
-    others_apart q k other at x waits = none_from-is_some (file_hold t.then.owned.file x) (false_from_ne_true _ (λ there.
+        → file_hold t.then.owned.path.file x ≡ None
+    others_apart q k other at x waits = none_from-is_some (file_hold t.then.owned.path.file x) (false_from_ne_true _ (λ there.
         let by_other = ((stood t).clients q k at).pieces x waits in
-        elim (or_cases (is_some (file_hold t.was.owned.file x)) (is_some (pending_hold t.client x)) (follows.owned x there)) [
+        elim (or_cases (is_some (file_hold t.was.owned.path.file x)) (is_some (pending_hold t.client x)) (follows.owned x there)) [
           | inl was ↦ true≢false (sym was ∙ ap is_some (((stood t).clients q k at).apart x waits))
           | inr mine ↦
               let by_own = (own_pieces x mine).own in
@@ -158,16 +158,16 @@ module _ {s : Job} {paths : List (List ℕ)} {states : List PathState} {answers 
       each = placed (Stands s (given_then t) turns.phase) stands-after stands-other;
       versions = kept-places (λ x y. KeepsVersions x.owned y.owned)
           (record {
-            longer = omega (arith, length-grown t.was.owned.journal.items t.number (event t).commits, ap length follows.journal);
+            longer = omega (arith, length-grown t.was.owned.path.journal t.number (event t).commits, ap length follows.journal);
             same = λ v le.
-                marks-grown t.was.owned.journal.items v (event t).commits is_answer.adds is_answer.next (stood t).owned.answered le
+                marks-grown t.was.owned.path.journal v (event t).commits is_answer.adds is_answer.next (stood t).owned.answered le
                 ∙ ap (λ (j : List ℕ). marks_at s (given_then t) j v) (sym follows.journal);
           })
           (λ j x at. record {
             longer = omega arith;
             same = λ v le.
                 let p = path-at j x at in
-                marks-answered s (given t) (given_then t) x.owned.journal.items t.number v a is_answer.adds is_answer.next
+                marks-answered s (given t) (given_then t) x.owned.path.journal t.number v a is_answer.adds is_answer.next
                 (t.held.each j p.0 x p.1 at).owned.answered;
           });
     }
@@ -199,6 +199,6 @@ module _ {s : Job} {paths : List (List ℕ)} {states : List PathState} {answers 
           (λ j p x _ at found. subst (λ A. Stands s A turns.phase p x) (sym list_same) (t.held.each j p x at found));
       versions = kept-places (λ x y. KeepsVersions x.owned y.owned)
           (subst (λ (y : PathState). KeepsVersions t.was.owned y.owned) (sym same_state)
-          (record { longer = omega arith; same = λ v le. ap (λ A. marks_at s A t.was.owned.journal.items v) (sym list_same) }))
-          (λ j x at. record { longer = omega arith; same = λ v le. ap (λ A. marks_at s A x.owned.journal.items v) (sym list_same) });
+          (record { longer = omega arith; same = λ v le. ap (λ A. marks_at s A t.was.owned.path.journal v) (sym list_same) }))
+          (λ j x at. record { longer = omega arith; same = λ v le. ap (λ A. marks_at s A x.owned.path.journal v) (sym list_same) });
     }

@@ -84,7 +84,7 @@ module _ {s : Job} {paths : List (List ℕ)} {states : List PathState} {answers 
 
   -- a piece of another path is kept for neither
   module _ (q : Piece) (o : OpLine) (is : op_at s q.line ≡ Some o) where
-    file-path : is_some (file_hold t.was.owned.file q) ≡ true → o.path ≡ t.line.path
+    file-path : is_some (file_hold t.was.owned.path.file q) ≡ true → o.path ≡ t.line.path
     file-path held =
         let on = (stood t).owned.pieces q held in (own-path s on.client t.line.path q.line o is on.by_client.own).1
 
@@ -95,7 +95,7 @@ module _ {s : Job} {paths : List (List ℕ)} {states : List PathState} {answers 
     stands-then = after.each t.place t.line.path t.then t.at
         (slice_get-set_same states t.place t.then (slice_get_within states t.place t.was t.there))
 
-    file-path-then : is_some (file_hold t.then.owned.file q) ≡ true → o.path ≡ t.line.path
+    file-path-then : is_some (file_hold t.then.owned.path.file q) ≡ true → o.path ≡ t.line.path
     file-path-then held =
         let on = stands-then.owned.pieces q held in (own-path s on.client t.line.path q.line o is on.by_client.own).1
 
@@ -168,8 +168,8 @@ module _ {s : Job} {paths : List (List ℕ)} {states : List PathState} {answers 
             let kept_one : slice_get t.then.clients o.rank ≡ Some f.client = ap (λ ks. slice_get ks o.rank) t.changed
             ∙ slice_get-set_other t.was.clients r o.rank t.own other ∙ beside_was in
             let same : f.client ≡ g.client = same_Some f.client g.client (sym kept_one ∙ beside_then) in
-            let F = is_some (file_hold t.was.owned.file q) in
-            let F' = is_some (file_hold t.then.owned.file q) in
+            let F = is_some (file_hold t.was.owned.path.file q) in
+            let F' = is_some (file_hold t.then.owned.path.file q) in
             let P = is_some (pending_hold f.client q) in
             let mine : is_some (pending_hold t.client q) ≡ true → ⊥ = λ h. other ((pending-of h).0 ∙ rank-is t) in
             let mine_then : is_some (pending_hold t.own q) ≡ true → ⊥ = λ h. other ((pending-of-then h).0 ∙ rank-is t) in

@@ -14,14 +14,14 @@ later-version a b = grind (arith, common_steps)
 -- the front of the line is the greater of what its client noted and the board
 front-kept : {s : Job} {A : Answering} {now n : ℕ} {o : OpLine} {x : OwnedPath} {k : ClientPath} → phase s n ≡ now
     → IsOwn s A o.rank o.path n o → StandsForOwner s A now o.path x → StandsForClient s A o.rank o.path x k
-    → (later_of k.noted x.board).version ≡ front s A x.journal.items o.rank o.path n
+    → (later_of k.noted x.board.told).version ≡ front s A x.path.journal o.rank o.path n
 front-kept {s} {A} {n} {o} {x} {k} is own owned client =
     let lt = own.within in
     let saw : k.noted.version ≡ seen s A o.rank o.path n = client.seen
     ∙ over_answers-until _ _ s o.rank o.path A n (past_lines s) (omega arith) own.from in
-    let told : x.board.version ≡ of_earlier_phases s n x.journal.items = owned.board
-    ∙ ap (λ j. count_by (λ m. nat_lt (phase s m) j) x.journal.items) (sym is) in
-    later-version k.noted x.board ∙ ap (λ v. max v x.board.version) saw ∙ ap (max (seen s A o.rank o.path n)) told
+    let told : x.board.told.version ≡ of_earlier_phases s n x.path.journal = owned.told
+    ∙ ap (λ j. count_by (λ m. nat_lt (phase s m) j) x.path.journal) (sym is) in
+    later-version k.noted x.board.told ∙ ap (λ v. max v x.board.told.version) saw ∙ ap (max (seen s A o.rank o.path n)) told
 
 same_now : (v w : PathNow) → v.file ≡ w.file → v.marks ≡ w.marks → v.version ≡ w.version → v.pending ≡ w.pending → v.is_open ≡ w.is_open
     → v.front ≡ w.front → v.at_front ≡ w.at_front → v.free ≡ w.free → v ≡ w
@@ -36,17 +36,17 @@ known-bytes s (Some f) = refl
 pub kept_now-is : {s : Job} {A : Answering} {now n free : ℕ} {o : OpLine} {x : OwnedPath} {k : ClientPath} (log : List (Option Piece))
     → 0 < s.shape.chunk → phase s n ≡ now → IsOwn s A o.rank o.path n o → StandsForOwner s A now o.path x
     → StandsForClient s A o.rank o.path x k → free ≡ length (empty_slots log)
-    → kept_now s x k free ≡ path_now s A x.journal.items log n o
+    → kept_now s x k free ≡ path_now s A x.path.journal log n o
 kept_now-is {s} {A} {now} {n} {free} {o} {x} {k} log chunk is own owned client room =
     let lt = own.within in
-    let J = x.journal.items in
+    let J = x.path.journal in
     let at = λ (v : ℕ). known_of (marks_at s A J v) in
     let front = front-kept is own owned client in
     same_now (kept_now s x k free) (path_now s A J log n o)
     (ap (marked_bytes s) owned.marks ∙ state-by_marks s A J (length J) chunk) owned.marks refl
     (client.pending ∙ over_answers-until _ _ s o.rank o.path A n (past_lines s) (omega arith) own.from)
     (client.opened ∙ over_answers-until _ _ s o.rank o.path A n (past_lines s) (omega arith) own.from)
-    front ((cond_both (leb x.board.version k.noted.version) k.noted x.board (λ x. known_from x ≡ at x.version) (λ _. client.known)
+    front ((cond_both (leb x.board.told.version k.noted.version) k.noted x.board.told (λ x. known_from x ≡ at x.version) (λ _. client.known)
     (λ _. owned.known)) ∙ ap at front ∙ known-bytes s (marks_at s A J (front_of front))
     ∙ ap known_of (state-by_marks s A J (front_of front) chunk)) room
   where

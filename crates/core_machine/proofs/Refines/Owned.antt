@@ -39,13 +39,13 @@ module _ {s : Job} {A : Answering} {now : ℕ} (paths : List (List ℕ)) (states
 
   -- what the present file of a path bears is in the file that is kept
   present-kept : (i : ℕ) (p : List ℕ) (x : PathState) → slice_get paths i ≡ Some p → slice_get states i ≡ Some x
-      → bears (present_marks s A (journals p)) q ≡ is_some (file_hold x.owned.file q)
+      → bears (present_marks s A (journals p)) q ≡ is_some (file_hold x.owned.path.file q)
   present-kept i p x at there =
-      let J : journals p ≡ x.owned.journal.items = journal_of-zip paths (map journal_kept states) i p (journal_kept x) named.rising at
+      let J : journals p ≡ x.owned.path.journal = journal_of-zip paths (map journal_kept states) i p (journal_kept x) named.rising at
       (slice_get-map_some journal_kept states i x there) in
       let owned = (each i p x at there).owned in
       ap (λ (j : List ℕ). bears (present_marks s A j) q) J ∙ ap (λ f. bears (cells_of f) q) (sym owned.marks)
-      ∙ sym (file-bears x.owned.file q owned.written)
+      ∙ sym (file-bears x.owned.path.file q owned.written)
 
   -- no path but the line's own bears the piece
   own_path : (p : List ℕ) → bears (present_marks s A (journals p)) q ≡ true → p ≡ o.path
@@ -63,10 +63,10 @@ module _ {s : Job} {A : Answering} {now : ℕ} (paths : List (List ℕ)) (states
 
   module _ (i : ℕ) (x : PathState) (k : ClientPath) (at : slice_get paths i ≡ Some o.path) (there : slice_get states i ≡ Some x)
       (beside : slice_get x.clients o.rank ≡ Some k) where
-    live-kept : is_live s A journals q ≡ is_some (file_hold x.owned.file q)
+    live-kept : is_live s A journals q ≡ is_some (file_hold x.owned.path.file q)
     live-kept =
         let test = λ (p : List ℕ). bears (present_marks s A (journals p)) q in
-        same_answer (is_live s A journals q) (is_some (file_hold x.owned.file q))
+        same_answer (is_live s A journals q) (is_some (file_hold x.owned.path.file q))
         (λ live.
         let h = Any-from_list_any test (named_paths s) live in
         sym (present-kept i o.path x at there) ∙ subst (λ p. test p ≡ true) (own_path h.1 h.4) h.4)

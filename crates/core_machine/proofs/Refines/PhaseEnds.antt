@@ -1,10 +1,12 @@
 -- The end of a phase: all clients are told of every path, and all that is kept goes on holding in the next phase.
 use Rattle.fs_types.proofs.Common.{◌≡◌, ℕ, zero, suc, ◌<◌, Bool, false, cond, List, [], ◌∷◌, length, map, Option, Some, None, IsSome}
-use Rattle.fs_types.proofs.Common.{is_some, nat_lt, count_by, slice_index, refl, sym, ap, ◌∙◌, subst, arith, zip, slice_get}
+use Rattle.fs_types.proofs.Common.{true, IfSome, nat_lt, count_by, slice_index, refl, sym, ap, ◌∙◌, subst, arith, zip, slice_get}
 use Rattle.fs_types.proofs.Common.{AllByRecursion, lt-ltb, length-map, sum_by-cons, map-map, same_Some}
-use Rattle.fs_script.specs.Vocabulary.{Given, answer_at, Job, phase, program, Answering}
+use Rattle.fs_script.specs.Vocabulary.{Given, answer_at, Job, marks_at, phase, program, Answering}
+use Rattle.owner_book.specs.Calls.{attr_in}
+use Rattle.core_machine.specs.Kept.{OwnedPath, owner_told}
 use Rattle.slot_plain.specs.Log.{Log}
-use Rattle.core_machine.specs.Vocabulary.{FileSpans, OwnedPath, PathState, Task, known_of, file_marks, board_now, with_board, Places, IsAnsweredUpTo}
+use Rattle.core_machine.specs.Vocabulary.{BookFile, IsFile, PlainHold, PathState, Task, known_of, file_marks, known_from, with_board, Places, IsAnsweredUpTo}
 use Rattle.core_machine.specs.Vocabulary.{clients_of, holds_of, moment_of, next_in, pieces_in, Holds}
 use Rattle.core_machine.specs.Vocabulary.{HoldsOfPath, Stands, StandsForLogs, StandsForLookUp}
 use Rattle.core_machine.specs.Vocabulary.{StandsForOwner}
@@ -20,22 +22,25 @@ all-earlier s now (m ∷ J) all =
     let first = ap (λ b. cond {A = ℕ} b 1 0) (lt-ltb (phase s m) now all.0) in
     omega (arith, rest, first, sum_by-cons (λ k. cond (nat_lt (phase s k) now) 1 0) m J)
 
-known-board : (f : Option FileSpans) → record { exists = is_some f; frozen = false } ≡ known_of (file_marks f)
-known-board None = refl
-known-board (Some f) = refl
+known-board : (f : Option (BookFile PlainHold)) → IfSome f IsFile → record { exists = (attr_in f).exists; frozen = false } ≡ known_of (file_marks f)
+known-board None written = refl
+known-board (Some f) written = λ i. record { exists = true; frozen = sym written.unfrozen i }
 
 -- the owner's part, where every line that was answered is of an earlier phase than the next one
 StandsForOwner-told : {s : Job} {A : Answering} {now : ℕ} (next : ℕ) {p : List ℕ} {x : OwnedPath}
     → ((m : ℕ) → IsSome (A m) → phase s m < next)
-    → StandsForOwner s A now p x → StandsForOwner s A next p (record x { board = board_now x })
+    → StandsForOwner s A now p x → StandsForOwner s A next p (owner_told x)
 StandsForOwner-told {s} {A} next {x = x} past stands = record {
   answered = stands.answered;
   written = stands.written;
   marks = stands.marks;
   pieces = stands.pieces;
-  board = all-earlier s next x.journal.items (AllByRecursion-weaker (λ m. IsSome (A m)) (λ m. phase s m < next) x.journal.items past
+  board = stands.board;
+  told = ap (λ n. n.version) stands.board
+      ∙ all-earlier s next x.path.journal (AllByRecursion-weaker (λ m. IsSome (A m)) (λ m. phase s m < next) x.path.journal past
       stands.answered);
-  known = known-board x.file ∙ ap known_of stands.marks;
+  known = ap known_from stands.board ∙ known-board x.path.file stands.written ∙ ap known_of stands.marks
+      ∙ ap (λ v. known_of (marks_at s A x.path.journal v)) (sym (ap (λ n. n.version) stands.board));
 }
 
 -- the moment stays

@@ -1,44 +1,52 @@
 -- What is read of a path in what the core keeps: its journal and its file at the moment.
 use Rattle.fs_types.proofs.Common.{common_steps, ◌≡◌, ℕ, List, [], length, map, Some, None, Vec, false, sym, ap}
-use Rattle.fs_types.proofs.Common.{◌∙◌, arith, get_or, slice_get, Contains, slice_get-get_or}
+use Rattle.fs_types.proofs.Common.{◌∙◌, ◌<◌, arith, get_or, slice_get, Contains, slice_get-get_or, get_or_from_slice_get, IfSome, Option, true, true≢false, is_some}
 use Rattle.fs_script.specs.Vocabulary.{Given, answer_at, Job, marked_bytes, state, AreRising, journal_of}
-use Rattle.core_machine.specs.declared.owner_files.OwnerFiles.{OwnerFiles}
 use Rattle.slot_plain.specs.Log.{Log}
 use Rattle.core_machine.specs.Logs.{AreInMemory}
-use Rattle.core_machine.specs.OwnerFiles.{owned_at}
+use Rattle.core_machine.specs.Kept.{owned_of}
 use Rattle.core_machine.specs.PathStates.{AreKept, states_of}
-use Rattle.core_machine.specs.Vocabulary.{ClientPath, OwnedPath, PathState, Task, file_of, file_now, Places}
+use Rattle.core_machine.specs.Vocabulary.{Board, Book, PlainHold, path_at, ClientPath, OwnedPath, PathState, Task, file_of, file_now, Places}
 use Rattle.core_machine.specs.Vocabulary.{journals_of, moment_of, Holds, HoldsStand, Stands, file_hold}
-use Rattle.fs_script.proofs.CallerLemmas.{AllByRecursion-from_contained, slice_get-map_some, slice_get-some}
+use Rattle.fs_script.proofs.CallerLemmas.{slice_get-map_some, slice_get-some}
 use Rattle.fs_script.proofs.CallerLemmas.{journal_of-zip, journal_of-absent, state-by_marks}
 use Rattle.core_machine.proofs.Refines.JournalsKept.{journal_kept}
 use Rattle.core_machine.proofs.Refines.StatesOfPaths.{states-at}
 
--- the place of a path of which its owner keeps x, and what is kept for the path there
+-- the place of a path of which this is kept at its owner, and what is kept for the path there
 pub record IsThere (paths : List (List ℕ)) (states : List PathState) (p : List ℕ) (x : OwnedPath) : Type 0 where
   pub place : ℕ
   pub clients : List ClientPath
   pub at : slice_get paths place ≡ Some p
   pub there : slice_get states place ≡ Some (record { owned = x; clients = clients })
 
-pub there-kept : {A : Type 0} {servers : ℕ} {paths : List (List ℕ)} {owners : List OwnerFiles} {kept : List (Vec ClientPath A)} (p : List ℕ)
-    (x : OwnedPath) → AreKept servers paths owners kept → Contains paths p → owned_at owners p ≡ Some x
-    → IsThere paths (states_of (owned_at owners) paths kept) p x
-there-kept {A} {servers} {paths} {owners} {kept} p x all has is =
+pub there-kept : {A : Type 0} {servers : ℕ} {paths : List (List ℕ)} {books : List (Book PlainHold)} {boards : List Board}
+    {kept : List (Vec ClientPath A)} (p : List ℕ) → AreKept servers paths books boards kept → Contains paths p
+    → (b : Board) × IsThere paths (states_of (path_at books) paths boards kept) p (owned_of (path_at books p) b)
+there-kept {paths = paths} {books} {boards} {kept} p all has =
     let at = slice_get-get_or paths has.0 p has.1 ∙ ap Some has.2 in
-    let ks = slice_get-some kept has.0 (let rows = all.rows in let lt = has.1 in omega arith) in
-    record {
-      place = has.0;
-      clients = ks.0.items;
-      at = at;
-      there = states-at (owned_at owners) paths kept has.0 p x ks.0 (AllByRecursion-from_contained paths all.filed) at is ks.1;
-    }
+    let b = slice_get-some boards has.0 (let rows = all.boarded in let lt = has.1 in omega arith) in
+    let ks = slice_get-some kept has.0 (let rows = all.rows in let lt = has.1 in omega arith) in (
+      b.0,
+      record {
+        place = has.0;
+        clients = ks.0.items;
+        at = at;
+        there = states-at (path_at books) paths boards kept has.0 p b.0 ks.0 at b.1 ks.1;
+      },
+    )
+
+-- a path that was found among them is one of them
+pub found-there : (place : Option ℕ) (paths : List (List ℕ)) (p : List ℕ) → is_some place ≡ true → IfSome place (λ i. i < length paths)
+    → IfSome place (λ i. slice_get paths i ≡ Some p) → Contains paths p
+found-there None paths p some within there = absurd (true≢false (sym some))
+found-there (Some i) paths p some within there = (i, within, get_or_from_slice_get paths i p p there)
 
 -- the journal of a path that has a place
 pub journal-read : (paths : List (List ℕ)) (states : List PathState) (p : List ℕ) (x : OwnedPath) → AreRising paths
-    → IsThere paths states p x → x.journal.items ≡ journal_of (journals_of paths states) p
+    → IsThere paths states p x → x.path.journal ≡ journal_of (journals_of paths states) p
 journal-read paths states p x rising here =
-    sym (journal_of-zip paths (map journal_kept states) here.place p x.journal.items rising here.at
+    sym (journal_of-zip paths (map journal_kept states) here.place p x.path.journal rising here.at
     (slice_get-map_some journal_kept states here.place (record { owned = x; clients = here.clients }) here.there))
 
 pub journal-absent : (paths : List (List ℕ)) (states : List PathState) (p : List ℕ) → (Contains paths p → ⊥)
@@ -54,7 +62,7 @@ Stands-read p x held here = held.each here.place p (record { owned = x; clients 
 -- and each hold of it is of a slot that has its piece
 pub stand-read : {s : Job} {paths : List (List ℕ)} {states : List PathState} {answers : Given} {turns : Places} {tasks : List Task}
     {logs : List Log} (p : List ℕ) (x : OwnedPath) → Holds s paths states answers turns tasks logs → IsThere paths states p x
-    → HoldsStand s logs (file_hold x.file)
+    → HoldsStand s logs (file_hold x.path.file)
 stand-read p x held here = (held.path_holds here.place (record { owned = x; clients = here.clients }) here.there).files
 
 -- and all logs are in memory
@@ -65,9 +73,9 @@ memory-read {logs} held k d within = (held.logs_stand.each k (get_or logs k d) (
 -- the file of a path is that of the moment
 pub file-read : {s : Job} {paths : List (List ℕ)} {states : List PathState} {answers : Given} {turns : Places} {tasks : List Task}
     {logs : List Log} (p : List ℕ) (x : OwnedPath) → Holds s paths states answers turns tasks logs → IsThere paths states p x
-    → file_of s x.file ≡ file_now (moment_of s paths states answers turns tasks logs false) p
+    → file_of s x.path.file ≡ file_now (moment_of s paths states answers turns tasks logs false) p
 file-read {s} {paths} {states} {answers} p x held here =
-    let J = x.journal.items in
+    let J = x.path.journal in
     ap (marked_bytes s) (Stands-read p x held here).owned.marks ∙ state-by_marks s (answer_at answers.list) J (length J) held.job.chunk
     ∙ ap (λ (j : List ℕ). state s (answer_at answers.list) j (length j)) (journal-read paths states p x held.named.rising here)
 

@@ -57,7 +57,7 @@ module _ {s : Job} {paths : List (List ℕ)} {states : List PathState} {answers 
     fresh-piece : (q : Piece) → q.line ≡ n → keeps x.owned k q ≡ false
     fresh-piece q here = false_from_ne_true (keeps x.owned k q) (λ kept.
         fresh-line (subst (λ m. IsSome (answer_at answers.list m)) here
-        (elim (or_cases (is_some (file_hold x.owned.file q)) (is_some (pending_hold k q)) kept) [
+        (elim (or_cases (is_some (file_hold x.owned.path.file q)) (is_some (pending_hold k q)) kept) [
           | inl filed ↦ (stood.owned.pieces q filed).by_client.answered
           | inr waits ↦ ((stood.clients r k beside).pieces q waits).answered
         ])))
@@ -69,7 +69,7 @@ module _ {s : Job} {paths : List (List ℕ)} {states : List PathState} {answers 
         let task = held.tasks_stand r t midst in
         record {
           whole = record {
-            sound = record { written = stood.owned.written; pending = client.whole; apart = client.apart };
+            sound = record { written = stood.owned.written; board = stood.owned.board; pending = client.whole; apart = client.apart };
             task = task.task;
             midst = task.line n o (ap (λ j. slice_get (program j r) (slice_index turns.places r)) held.same ∙ next) is;
           };

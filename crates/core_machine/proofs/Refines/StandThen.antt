@@ -87,12 +87,12 @@ module _ {s : Job} {paths : List (List ℕ)} {states : List PathState} {answers 
 
     -- a piece of the file of a path
     wanted-file : (j : ℕ) (p : List ℕ) (x : PathState) → slice_get paths j ≡ Some p → slice_get (states_then t) j ≡ Some x
-        → is_some (file_hold x.owned.file q) ≡ true → 0 < holds_of (moment_then t after) o.rank q
+        → is_some (file_hold x.owned.path.file q) ≡ true → 0 < holds_of (moment_then t after) o.rank q
     wanted-file j p x at there held =
         let on = (after.each j p x at there).owned.pieces q held in
         let path = (own-path s on.client p q.line o is on.by_client.own).1 in
         let same = state-is j p x path at there in
-        wanted-kept (or_left _ _ (subst (λ (y : PathState). is_some (file_hold y.owned.file q) ≡ true) same held))
+        wanted-kept (or_left _ _ (subst (λ (y : PathState). is_some (file_hold y.owned.path.file q) ≡ true) same held))
 
     -- a pending piece of a client
     wanted-pending : (j : ℕ) (p : List ℕ) (x : PathState) (c : ℕ) (k : ClientPath) → slice_get paths j ≡ Some p
@@ -119,7 +119,7 @@ module _ {s : Job} {paths : List (List ℕ)} {states : List PathState} {answers 
   pub path-holds-then : (j : ℕ) (p : List ℕ) (x : PathState) → slice_get paths j ≡ Some p → slice_get (states_then t) j ≡ Some x
       → HoldsOfPath s t.logs_then x
   path-holds-then j p x at there = record {
-    files = stand-on (file_hold x.owned.file) (files-filled (cases_eq j t.place))
+    files = stand-on (file_hold x.owned.path.file) (files-filled (cases_eq j t.place))
         (λ q h held o is. wanted-file q o is j p x at there (ap is_some held));
     pending = λ c k beside.
         stand-on (pending_hold k) (pending-filled c k beside (cases_eq j t.place))
@@ -133,10 +133,10 @@ module _ {s : Job} {paths : List (List ℕ)} {states : List PathState} {answers 
       before : j ≢ t.place → slice_get states j ≡ Some x
       before other = sym (slice_get-set_other states t.place j t.then other) ∙ there
 
-      files-filled : (j ≡ t.place) ⊎ (j ≢ t.place) → HoldsStand s t.follows.settles.logs.filled (file_hold x.owned.file)
+      files-filled : (j ≡ t.place) ⊎ (j ≢ t.place) → HoldsStand s t.follows.settles.logs.filled (file_hold x.owned.path.file)
       files-filled (inl is) =
-          subst (λ (y : PathState). HoldsStand s t.follows.settles.logs.filled (file_hold y.owned.file)) (state is) t.follows.settles.stand.files
-      files-filled (inr other) = stand-filled (file_hold x.owned.file) (t.held.path_holds j x (before other)).files
+          subst (λ (y : PathState). HoldsStand s t.follows.settles.logs.filled (file_hold y.owned.path.file)) (state is) t.follows.settles.stand.files
+      files-filled (inr other) = stand-filled (file_hold x.owned.path.file) (t.held.path_holds j x (before other)).files
 
       pending-filled : (c : ℕ) (k : ClientPath) → slice_get x.clients c ≡ Some k → (j ≡ t.place) ⊎ (j ≢ t.place)
           → HoldsStand s t.follows.settles.logs.filled (pending_hold k)

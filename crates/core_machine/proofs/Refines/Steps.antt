@@ -86,7 +86,7 @@ module _ {s : Job} {paths : List (List ℕ)} {states : List PathState} {answers 
     by (x ∷ ls) zero = refl
     by (x ∷ ls) (suc c) = by ls c
 
-  journal-is : journal_of (journals_of paths states) t.line.path ≡ t.was.owned.journal.items
+  journal-is : journal_of (journals_of paths states) t.line.path ≡ t.was.owned.path.journal
   journal-is = journal_of-zip paths (map journal_kept states) t.place t.line.path (journal_kept t.was) t.held.named.rising t.at
       (slice_get-map_some journal_kept states t.place t.was t.there)
 
@@ -133,7 +133,7 @@ module _ {s : Job} {paths : List (List ℕ)} {states : List PathState} {answers 
   journal-then : (a : Option Answer) → t.answer ≡ a → journal_kept t.then ≡ grown (journal_kept t.was) t.number (event t).commits
   journal-then None is =
       let all = subst (FollowsBy s t.number t.line.op t.task (event t) t.was.owned t.client t.then.owned t.own) is t.follows.kept in
-      ap (λ (x : OwnedPath). x.journal.items) all.owned ∙ ap (grown (journal_kept t.was) t.number) (sym all.commits)
+      ap (λ (x : OwnedPath). x.path.journal) all.owned ∙ ap (grown (journal_kept t.was) t.number) (sym all.commits)
   journal-then (Some a) is =
       (subst (FollowsBy s t.number t.line.op t.task (event t) t.was.owned t.client t.then.owned t.own) is t.follows.kept).journal
 

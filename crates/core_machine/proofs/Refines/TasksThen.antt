@@ -1,12 +1,12 @@
 -- What the clients are in the midst of after an event.
-use Rattle.fs_types.proofs.Common.{◌≡◌, ◌≢◌, ℕ, ◌+◌, true, false, List, length, slice_index, slice_get, Option, Some, None, is_some}
+use Rattle.fs_types.proofs.Common.{◌≡◌, ◌≢◌, ℕ, ◌+◌, Bool, true, false, List, length, slice_index, slice_get, Option, Some, None, is_some}
 use Rattle.fs_types.proofs.Common.{same_Some, refl, sym, ap, ◌∙◌, subst, inl, inr, arith, cases_eq, cond_both}
-use Rattle.fs_types.proofs.Common.{nat_lt, slice_get_within, get_or-set_other, length-set, true≢false, ◌⊎◌}
+use Rattle.fs_types.proofs.Common.{nat_lt, slice_get_within, get_or-set_other, length-set, true≢false, ◌⊎◌, IfSome}
 use Rattle.slot_plain.specs.Log.{Log}
-use Rattle.fs_script.specs.Vocabulary.{Answer, File, Given, Job, Mark, op_at, program, marks_at, range_of, runs}
+use Rattle.fs_script.specs.Vocabulary.{Answer, File, Given, Job, Mark, op_at, program, marks_at, marks_in, range_of, runs, view_of}
 use Rattle.fs_script.specs.declared.line.Op.TheVariants as ops
 use Rattle.fs_script.proofs.CallerLemmas.{place_unique, slice_get-some, slice_get-set_same, slice_get-set_other}
-use Rattle.core_machine.specs.Vocabulary.{Op, OpLine, PathState, OwnedPath, FileSpans, Task, Idle}
+use Rattle.core_machine.specs.Vocabulary.{Op, OpLine, PathState, OwnedPath, BookFile, IsFile, PlainHold, Task, Idle}
 use Rattle.core_machine.specs.Vocabulary.{Read, Doing, Reading, nothing, reading, Event, PathNow}
 use Rattle.core_machine.specs.Vocabulary.{Places, free_in, MayBeIn, StandsForLookUp, StandsForTask, doing_of, event_of}
 use Rattle.core_machine.specs.Vocabulary.{file_marks, kept_now, known_of, next_in, lookup_over, read_event, create_over}
@@ -35,16 +35,25 @@ looks-up s w d ops.Open = by w.file where
   by (Some f) = tt
 looks-up s w d (ops.Write off text) = grind (arith)
 looks-up s w d ops.Sync = grind (arith)
-looks-up s w d (ops.Read off len) = by d where
-  over : (f : File (Option Mark)) → w.marks ≡ f → LooksUp w nothing (lookup_over w f (range_of off len)).doing
-  over None is = tt
-  over (Some f) is = inl (refl, ap is_some is)
+looks-up s w d (ops.Read off len own) = by d where
+  -- pending writes are seen over a file that is there alone
+  there : (b : Bool) (f : File (Option Mark)) → is_some (view_of s (marks_in s) b w.pending f) ≡ is_some f
+  there true None = refl
+  there true (Some f) = refl
+  there false f = refl
 
-  by : (e : Doing) → LooksUp w e (read_event s w e (range_of off len)).doing
-  by nothing = cond_both w.is_open _ _ (λ (e : Event). LooksUp w nothing e.doing) (λ _. over w.marks refl) (λ _. tt)
+  over : (f : File (Option Mark)) → is_some f ≡ is_some w.marks → LooksUp w nothing (lookup_over w f (range_of off len own)).doing
+  over None is = tt
+  over (Some f) is = inl (refl, sym is)
+
+  by : (e : Doing) → LooksUp w e (read_event s w e (range_of off len own)).doing
+  by nothing = cond_both w.is_open _ _ (λ (e : Event). LooksUp w nothing e.doing)
+      (λ _. over (view_of s (marks_in s) own w.pending w.marks) (there own w.marks)) (λ _. tt)
   by (reading f) = cond_both (nat_lt f.fetched (length (runs f.marks))) _ _ (λ (e : Event). LooksUp w (reading f) e.doing)
       (λ _. inr (f, refl, refl)) (λ _. tt)
 looks-up s w d ops.Size = grind (arith)
+looks-up s w d (ops.Trunc n) = grind (arith)
+looks-up s w d ops.Unlink = grind (arith)
 
 module _ {s : Job} {paths : List (List ℕ)} {states : List PathState} {answers : Given} {turns : Places} {tasks : List Task}
     {logs : List Log} {r : ℕ} (t : Stepped s paths states answers turns tasks logs r) (after : PathsAfter t) where
@@ -109,12 +118,12 @@ module _ {s : Job} {paths : List (List ℕ)} {states : List PathState} {answers 
       record { within = omega (arith, within, keeps.longer); known = is.known ∙ ap known_of (keeps.same d.version within) }
 
   -- where a file is there now, that is known of it
-  known-now : is_some (file_marks t.was.owned.file) ≡ true
-      → record { exists = true; frozen = false } ≡ known_of (marks_at s (given t) t.was.owned.journal.items (length t.was.owned.journal.items))
-  known-now there = by t.was.owned.file there ∙ ap known_of (stood t).owned.marks where
-    by : (f : Option FileSpans) → is_some (file_marks f) ≡ true → record { exists = true; frozen = false } ≡ known_of (file_marks f)
-    by None is = absurd (true≢false (sym is))
-    by (Some f) is = refl
+  known-now : is_some (file_marks t.was.owned.path.file) ≡ true
+      → record { exists = true; frozen = false } ≡ known_of (marks_at s (given t) t.was.owned.path.journal (length t.was.owned.path.journal))
+  known-now there = by t.was.owned.path.file (stood t).owned.written there ∙ ap known_of (stood t).owned.marks where
+    by : (f : Option (BookFile PlainHold)) → IfSome f IsFile → is_some (file_marks f) ≡ true → record { exists = true; frozen = false } ≡ known_of (file_marks f)
+    by None written is = absurd (true≢false (sym is))
+    by (Some f) written is = λ i. record { exists = true; frozen = sym written.unfrozen i }
 
   -- what the client whose event it is has looked up, by what was kept
   own-looks : (u : Task) → doing_of u ≡ (event t).doing → StandsForLookUp s (given t) t.was.owned u
@@ -124,7 +133,7 @@ module _ {s : Job} {paths : List (List ℕ)} {states : List PathState} {answers 
       (subst (λ (e : Event). LooksUp seen_now (doing_of t.task) e.doing) (sym t.follows.is) (looks-up s seen_now (doing_of t.task) t.line.op))) [
         | inl now ↦ record {
           within = omega (arith, now.0);
-          known = known-now now.1 ∙ ap (λ v. known_of (marks_at s (given t) t.was.owned.journal.items v)) (sym now.0);
+          known = known-now now.1 ∙ ap (λ v. known_of (marks_at s (given t) t.was.owned.path.journal v)) (sym now.0);
         }
         | inr goes_on ↦ went_on t.task goes_on.0 goes_on.1 goes_on.2 (looked_up t)
       ]
@@ -137,7 +146,7 @@ module _ {s : Job} {paths : List (List ℕ)} {states : List PathState} {answers 
           let within = was.within in
           record {
             within = omega (arith, within, at);
-            known = was.known ∙ ap (λ v. known_of (marks_at s (given t) t.was.owned.journal.items v)) at;
+            known = was.known ∙ ap (λ v. known_of (marks_at s (given t) t.was.owned.path.journal v)) at;
           }
         where
           version_in : Doing → ℕ

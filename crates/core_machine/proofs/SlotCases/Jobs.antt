@@ -1,10 +1,10 @@
 -- Jobs whose slots are worked out by hand, and what their moments are made of.
-use Rattle.fs_types.proofs.Common.{ℕ, List, [], ◌∷◌, ◌++◌, map, Option, Some, codes}
+use Rattle.fs_types.proofs.Common.{ℕ, ◌+◌, false, List, [], ◌∷◌, ◌++◌, map, replicate, Option, Some, None, codes}
 use Rattle.fs_script.specs.declared.line.Line.{Line}
 use Rattle.fs_script.specs.declared.line.Line.TheVariants as lines
 use Rattle.fs_script.specs.declared.line.Op.TheVariants as ops
 use Rattle.fs_script.specs.Vocabulary.{Job, Piece, SlotLine}
-use Rattle.core_machine.specs.Vocabulary.{Text, Doing, reading, Client, Moment, holds_in, log_of, step, Turn}
+use Rattle.core_machine.specs.Vocabulary.{Op, Text, Doing, reading, Client, Moment, fresh_client, holds_in, log_of, step, Turn}
 use Rattle.fs_script.proofs.CallerLemmas.{path_a, on_a}
 
 -- client 0 makes a file, and writes abc and commits it; after the barrier it writes foo over that and commits it, and does these
@@ -20,16 +20,24 @@ job_with slots more = record {
       ∷ lines.Op (on_a (ops.Write 0 (Text (codes "foo"))))
       ∷ lines.Op (on_a ops.Sync)
       ∷ more ++ lines.Op (record { rank = 1; path = path_a; op = ops.Open })
-      ∷ lines.Op (record { rank = 1; path = path_a; op = ops.Read 0 3 })
+      ∷ lines.Op (record { rank = 1; path = path_a; op = ops.Read 0 3 false })
       ∷ [];
 }
 
 abbrev pub writes_bar : Line
 writes_bar = lines.Op (on_a (ops.Write 0 (Text (codes "bar"))))
 
+-- part p of line n, in a slot
+abbrev pub part_at : ℕ → ℕ → Option Piece
+part_at n p = Some (record { line = n; part = p })
+
 -- the only piece of a line
 abbrev pub piece : ℕ → Option Piece
-piece n = Some (record { line = n; part = 0 })
+piece n = part_at n 0
+
+-- an operation of a client on the one path
+abbrev pub by_client : ℕ → Op → Line
+by_client r op = lines.Op (record { rank = r; path = path_a; op = op })
 
 -- the read that looked up version 2, and fetched so many runs
 abbrev pub read_with : ℕ → Doing
@@ -50,9 +58,24 @@ abbrev pub run : List ℕ → Moment → Moment
 run [] m = m
 run (r ∷ rs) m = run rs (step m (turn_of r))
 
--- how often what is in each of client 0's slots is held
+-- how often what is in each of client r's slots is held
+abbrev pub holds_by : ℕ → Moment → List ℕ
+holds_by r m = map (holds_in m r) (log_of m r)
+
+-- and in each of client 0's
 abbrev pub holds : Moment → List ℕ
-holds m = map (holds_in m 0) (log_of m 0)
+holds m = holds_by 0 m
 
 abbrev pub slot_line : ℕ → ℕ → ℕ → SlotLine
 slot_line r held free = record { rank = r; held = held; free = free; faults = 0 }
+
+-- the first moment of a job on the one path
+abbrev pub start_of : Job → Moment
+start_of s = record {
+  job = s;
+  clients = replicate s.shape.clients fresh_client;
+  answers = [];
+  journals = (path_a, []) ∷ [];
+  logs = replicate s.shape.clients (replicate (s.shape.shmem + s.shape.spill) None);
+  spent = false;
+}

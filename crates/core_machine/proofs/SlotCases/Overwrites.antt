@@ -22,7 +22,7 @@ one_client = record {
       ∷ lines.Op (on_a ops.Sync)
       ∷ lines.Op (on_a (ops.Write 1 (Text (codes "XY"))))
       ∷ lines.Op (on_a ops.Sync)
-      ∷ lines.Op (on_a (ops.Read 0 9))
+      ∷ lines.Op (on_a (ops.Read 0 9 false))
       ∷ lines.Op (on_a (ops.Write 0 (Text (codes "vwxyz"))))
       ∷ lines.Op (on_a ops.Sync)
       ∷ [];

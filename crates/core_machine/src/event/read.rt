@@ -1,30 +1,37 @@
 //! A read: it looks up what its range shows and pins the pieces of that, fetches one run of bytes
 //! in each event that follows, and in the last one lets the pieces go and shows the bytes.
 
-ghost use Rattle.std.specs.Prelude.{◌≡◌, ◌+◌, ◌-◌, ◌^◌, ◌<◌, ℕ, true, length, IfOk, OnOk};
+ghost use Rattle.std.specs.Prelude.{◌≡◌, ◌+◌, ◌-◌, ◌^◌, ◌<◌, ℕ, true, length, List, Option, IfOk, OnOk};
+ghost use Rattle.piece_table.specs.HeldSpans.{held};
 ghost use Rattle.piece_table.specs.PieceTable.{hold_of};
 ghost use Rattle.fs_script.specs.Fits.{body_of};
-ghost use Rattle.fs_script.specs.Job.{Job};
+ghost use Rattle.fs_script.specs.Vocabulary.{Job, Mark};
 ghost use Rattle.fs_script.specs.declared.line.Op.{Op};
 ghost use Rattle.core_machine.specs.Events.Read.{shows};
-ghost use Rattle.core_machine.specs.FileSpans.{IsFile};
+ghost use Rattle.owner_book.specs.Calls.{IsAsBefore};
 ghost use Rattle.core_machine.specs.Follows.{EventFollows, IsWhole, ReadSound};
-ghost use Rattle.core_machine.specs.Kept.{later_of};
+ghost use Rattle.core_machine.specs.Kept.{later_of, owned_in};
 ghost use Rattle.core_machine.specs.Logs.{AreHeldSlots, AreInMemory, AreInOneSlot, HoldsStand, slot_in};
-ghost use Rattle.core_machine.specs.Pins.{HaveSlots, no_count, pin_count};
-ghost use Rattle.core_machine.specs.Reads.{BeginsRead};
+ghost use Rattle.core_machine.specs.Pins.{HaveSlots, either_hold, no_count, pin_count};
+ghost use Rattle.core_machine.specs.Reads.{BeginsRead, IsSeenIn, found_hold};
 ghost use Rattle.core_machine.specs.Settling.{Settles};
 ghost use Rattle.core_machine.specs.Task.{IsReadTask, PinsRuns, reading_of};
 
+use crate::board::Board;
+use crate::books::Book;
+use crate::client_path::ClientPath;
 use crate::digest::digest;
 use crate::fetching::fetch_run;
-use crate::file_spans::FileSpans;
-use crate::path_state::{ClientPath, OwnedPath};
-use crate::pins::{let_go, pin_runs};
+use crate::pending::Pending;
+use crate::pins::{let_go, pin_runs, table_of};
+use crate::plain_hold::PlainHold;
+use crate::read_runs::runs_of;
 use crate::task::{ReadTask, Task};
+use crate::view::view;
 use fs_dev::SpillDev;
 use fs_script::Op;
-use fs_types::{Answer, Body, HEX_LIMIT, ShortBytes, Version, Want};
+use fs_types::{Answer, Body, HEX_LIMIT, Path, ShortBytes, Want};
+use owner_book::Looked;
 use slot_plain::PlainLog;
 use std::alloc::Global;
 
@@ -38,28 +45,33 @@ fn body(bytes: &[u8]) -> Body
     }
 }
 
-// Looks up what a range of a file shows, and pins the pieces of that.
+// Begins to read what is seen of a range: pins the pieces of what it shows.
 fn begin<D: SpillDev + Drop>(
     alloc: Global,
-    file: &FileSpans,
-    version: Version,
+    seen: Looked<PlainHold>,
+    own: &Pending,
     off: u64,
     len: u64,
     logs: &mut [PlainLog<D>],
 ) -> Result<ReadTask, Want>
-    requires file { IsFile file.now }
-    requires slots { HaveSlots logs.old (hold_of file.now.held.pieces) }
+    requires seen { (marks : List (Option Mark)) × IsSeenIn marks off len
+        (either_hold (found_hold seen) (held own.now.held).hold_of) seen }
+    requires slots { HaveSlots logs.old (either_hold (found_hold seen) (held own.now.held).hold_of) }
     requires once { AreInOneSlot logs.old }
     requires held { AreHeldSlots logs.old }
     requires few { (r i : ℕ) → (slot_in logs.old r i).count < 2 ^ 64 - 1 }
-    ensures { (s : Job) → IfOk result (λ t.
-        BeginsRead s file.now version off len t logs.old logs.new) }
+    ensures { (s : Job) (marks : List (Option Mark)) → IsSeenIn marks off len
+        (either_hold (found_hold seen) (held own.now.held).hold_of) seen → IfOk result (λ t.
+        BeginsRead s marks seen.v (either_hold (found_hold seen) (held own.now.held).hold_of) t
+        logs.old logs.new) }
 {
-    let runs = file.runs(alloc, off, len)?;
-    let bytes = vec![in alloc; 0; file.shown_len(off, len) as usize]?;
-    let pins = pin_runs(alloc, file, &runs, logs)?;
+    let runs = runs_of(alloc, &seen.frags, off)?;
+    let shown = len.min(seen.attr.size.saturating_sub(off));
+    let bytes = vec![in alloc; 0; shown as usize]?;
+    let holds = table_of(alloc, &seen.holds)?;
+    let pins = pin_runs(alloc, &holds, &own.held, &runs, logs)?;
     Ok(ReadTask {
-        version,
+        version: seen.v,
         runs,
         pins,
         fetched: 0,
@@ -112,31 +124,63 @@ fn finish<D: SpillDev + Drop>(
     }
 }
 
-/// One event of a read of at most `len` bytes from `off` on. No answer means that the line goes on.
-/// After want of memory all that is kept is open.
+/// One event of a read of at most `len` bytes from `off` on, of the file alone or with the client's
+/// own pending writes put over it. No answer means that the line goes on. After want of memory all
+/// that is kept is open, but what the book has.
 pub fn read<D: SpillDev + Drop>(
     alloc: Global,
     off: u64,
     len: u64,
-    path: &OwnedPath,
+    with_own: bool,
+    book: &mut Book,
+    gfid: u64,
+    p: &Path,
+    board: &Board,
     own: &mut ClientPath,
     task: &mut Task,
     logs: &mut [PlainLog<D>],
 ) -> Result<Option<Answer>, Want>
-    requires sound { (s : Job) × ReadSound s (Op.Read off len)
-        (record { owned = path.now; client = own.old; task = task.old; logs = logs.old }) }
+    requires sound { (s : Job) × ReadSound s (Op.Read off len with_own) (record {
+      owned = owned_in book.old gfid p.now board.now;
+      client = own.old;
+      task = task.old;
+      logs = logs.old;
+    }) }
     requires once { AreInOneSlot logs.old }
     requires held { AreHeldSlots logs.old }
     requires few { (q i : ℕ) → (slot_in logs.old q i).count < 2 ^ 64 - 1 }
-    ensures follows { (s : Job) (n r : ℕ) → ReadSound s (Op.Read off len)
-        (record { owned = path.now; client = own.old; task = task.old; logs = logs.old })
-        → IfOk result (λ a. EventFollows s n (Op.Read off len) r
-        (record { owned = path.now; client = own.old; task = task.old; logs = logs.old })
-        (record { owned = path.now; client = own.new; task = task.new; logs = logs.new }) a) }
-    ensures whole { (s : Job) → ReadSound s (Op.Read off len)
-        (record { owned = path.now; client = own.old; task = task.old; logs = logs.old })
-        → OnOk result (IsWhole s (Op.Read off len)
-        (record { owned = path.now; client = own.new; task = task.new; logs = logs.new })) }
+    ensures follows { (s : Job) (n r : ℕ) → ReadSound s (Op.Read off len with_own) (record {
+      owned = owned_in book.old gfid p.now board.now;
+      client = own.old;
+      task = task.old;
+      logs = logs.old;
+    })
+        → IfOk result (λ a. EventFollows s n (Op.Read off len with_own) r
+        (record {
+          owned = owned_in book.old gfid p.now board.now;
+          client = own.old;
+          task = task.old;
+          logs = logs.old;
+        })
+        (record {
+          owned = owned_in book.new gfid p.now board.now;
+          client = own.new;
+          task = task.new;
+          logs = logs.new;
+        }) a) }
+    ensures whole { (s : Job) → ReadSound s (Op.Read off len with_own) (record {
+      owned = owned_in book.old gfid p.now board.now;
+      client = own.old;
+      task = task.old;
+      logs = logs.old;
+    })
+        → OnOk result (IsWhole s (Op.Read off len with_own) (record {
+          owned = owned_in book.new gfid p.now board.now;
+          client = own.new;
+          task = task.new;
+          logs = logs.new;
+        })) }
+    ensures same { IsAsBefore book.old book.new }
 {
     if let Task::Read(t) = task {
         if t.fetched < t.runs.len() {
@@ -150,11 +194,15 @@ pub fn read<D: SpillDev + Drop>(
     if !own.is_open {
         return Ok(Some(Answer::BadF));
     }
-    let v = path.version();
-    let Some(file) = &path.file else {
+    let (v, attr) = book.attr(gfid, p);
+    if !attr.exists {
         own.note(v, false);
         return Ok(Some(Answer::NoEnt { v }));
+    }
+    let Ok(found) = book.lookup(alloc, gfid, p, off, len) else {
+        return Err(Want);
     };
-    *task = Task::Read(begin(alloc, file, v, off, len, logs)?);
+    let seen = view(found, with_own, &own.pending, off, len)?;
+    *task = Task::Read(begin(alloc, seen, &own.pending, off, len, logs)?);
     Ok(None)
 }

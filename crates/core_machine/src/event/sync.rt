@@ -1,59 +1,59 @@
 //! A sync: the client's pending writes become part of the file.
 
-ghost use Rattle.std.specs.Prelude.{◌≡◌, ◌+◌, ◌^◌, ◌<◌, ℕ, false, length, IfOk, OnOk};
-ghost use Rattle.core_machine.specs.Follows.{Ends, EventSound, Follows, LogsSettle, kept_event};
-ghost use Rattle.core_machine.specs.Kept.{AreSound};
+ghost use Rattle.std.specs.Prelude.{ℕ, IfOk};
+ghost use Rattle.core_machine.specs.Books.{ChangesOne};
+ghost use Rattle.core_machine.specs.Follows.{EndsLine, EventSound};
+ghost use Rattle.core_machine.specs.Kept.{owned_in};
 
-use crate::logs::release_all;
-use crate::path_state::{ClientPath, OwnedPath};
+use super::emptying::{find_no_file, finish_commit};
+use crate::board::Board;
+use crate::books::Book;
+use crate::client_path::ClientPath;
 use crate::task::Task;
 use fs_dev::SpillDev;
 use fs_script::{Op, Script};
-use fs_types::{Answer, LineNo, Want};
+use fs_types::{Answer, LineNo, Path, Want};
 use slot_plain::PlainLog;
 use std::alloc::Global;
 
-/// Answers a sync, line `n`. After want of memory all that is kept is open.
+/// Answers a sync, line `n`. After want of memory all that is kept is open, but what the book has
+/// of other paths.
 pub fn sync<D: SpillDev + Drop>(
     alloc: Global,
     s: &Script,
     n: LineNo,
-    path: &mut OwnedPath,
+    book: &mut Book,
+    gfid: u64,
+    p: &Path,
+    board: &mut Board,
     own: &mut ClientPath,
     logs: &mut [PlainLog<D>],
 ) -> Result<Answer, Want>
-    requires { (r : ℕ) × EventSound s.now n Op.Sync r
-        (record { owned = path.old; client = own.old; task = Task.Idle; logs = logs.old }) }
-    ensures ends { IfOk result (λ a. (free : ℕ)
-        → Ends (kept_event s.now path.old own.old free Task.Idle Op.Sync) false a) }
-    ensures follows { IfOk result (λ a. (free : ℕ) → Follows s.now n Op.Sync Task.Idle
-        (kept_event s.now path.old own.old free Task.Idle Op.Sync)
-        path.old own.old path.new own.new a) }
-    ensures logs { OnOk result ((r : ℕ) → LogsSettle s.now n r false
-        (record { owned = path.old; client = own.old; task = Task.Idle; logs = logs.old })
-        (record { owned = path.new; client = own.new; task = Task.Idle; logs = logs.new })) }
-    ensures sound { OnOk result (AreSound s.now path.new own.new) }
+    requires { (r : ℕ) × EventSound s.now n Op.Sync r (record {
+      owned = owned_in book.old gfid p.now board.old;
+      client = own.old;
+      task = Task.Idle;
+      logs = logs.old;
+    }) }
+    ensures done { IfOk result (λ a. EndsLine s.now n Op.Sync
+        (owned_in book.old gfid p.now board.old) own.old logs.old
+        (owned_in book.new gfid p.now board.new) own.new logs.new a) }
+    ensures others { ChangesOne book.old book.new gfid p.now }
 {
     if !own.is_open {
         return Ok(Answer::BadF);
     }
-    let mut dead = Vec::new(alloc);
-    let Some(file) = &mut path.file else {
-        own.pending.clear(&mut dead)?;
-        release_all(logs, &dead);
-        let v = path.version();
-        own.note(v, false);
-        return Ok(Answer::NoEnt { v });
-    };
+    let (v, attr) = book.attr(gfid, p);
+    if !attr.exists {
+        return find_no_file(alloc, v, own, logs);
+    }
     if own.pending.is_empty() {
-        let v = path.version();
         own.note(v, true);
         return Ok(Answer::Done { v });
     }
-    path.journal.push(n)?;
-    file.commit(s, &mut own.pending, &mut dead)?;
-    release_all(logs, &dead);
-    let v = path.version();
-    own.note(v, true);
-    Ok(Answer::Done { v })
+    let push = own.pending.take(alloc)?;
+    let Ok(done) = book.commit(alloc, gfid, p, n, push) else {
+        return Err(Want);
+    };
+    Ok(finish_commit(&done, board, own, logs))
 }

@@ -5,10 +5,13 @@ ghost use Rattle.fs_script.specs.AnswerKinds.{is_accepted};
 ghost use Rattle.fs_script.specs.Payload.{data_bytes, write_at};
 ghost use Rattle.core_machine.specs.Follows.{Ends, EventSound, Follows};
 ghost use Rattle.core_machine.specs.Follows.{LogsSettle, free_in, kept_event};
-ghost use Rattle.core_machine.specs.Kept.{AreSound};
+ghost use Rattle.owner_book.specs.Kept.{BookPath};
+ghost use Rattle.core_machine.specs.Kept.{AreSound, owned_of};
+ghost use Rattle.core_machine.specs.declared.plain_hold.PlainHold.{PlainHold};
 
+use crate::board::Board;
+use crate::client_path::ClientPath;
 use crate::logs::{fill_line, release_all};
-use crate::path_state::{ClientPath, OwnedPath};
 use crate::task::Task;
 use fs_dev::SpillDev;
 use fs_script::{Data, Op, Script};
@@ -25,27 +28,33 @@ pub fn write<D: SpillDev + Drop>(
     off: u64,
     text: &Data,
     r: Rank,
-    path: &OwnedPath,
+    board: &Board,
     own: &mut ClientPath,
     logs: &mut [PlainLog<D>],
 ) -> Result<Answer, Want>
     requires line { write_at s.now n ≡ Some (record { at = off; bytes = data_bytes text.now }) }
-    requires sound { EventSound s.now n (Op.Write off text.now) r
-        (record { owned = path.now; client = own.old; task = Task.Idle; logs = logs.old }) }
-    ensures ends { IfOk result (λ a. Ends (kept_event s.now path.now own.old
-        (free_in logs.old r) Task.Idle (Op.Write off text.now)) (is_accepted a) a) }
-    ensures follows { IfOk result (λ a. Follows s.now n (Op.Write off text.now) Task.Idle
-        (kept_event s.now path.now own.old (free_in logs.old r) Task.Idle (Op.Write off text.now))
-        path.now own.old path.now own.new a) }
-    ensures logs { IfOk result (λ a. LogsSettle s.now n r (is_accepted a)
-        (record { owned = path.now; client = own.old; task = Task.Idle; logs = logs.old })
-        (record { owned = path.now; client = own.new; task = Task.Idle; logs = logs.new })) }
-    ensures sound { OnOk result (AreSound s.now path.now own.new) }
+    requires sound { (x : BookPath PlainHold) × EventSound s.now n (Op.Write off text.now) r
+        (record { owned = owned_of x board.now; client = own.old; task = Task.Idle; logs = logs.old }) }
+    ensures ends { (x : BookPath PlainHold) → IfOk result (λ a. Ends (kept_event s.now
+        (owned_of x board.now) own.old (free_in logs.old r) Task.Idle (Op.Write off text.now))
+        (is_accepted a) a) }
+    ensures follows { (x : BookPath PlainHold) → IfOk result (λ a. Follows s.now n
+        (Op.Write off text.now) Task.Idle (kept_event s.now (owned_of x board.now) own.old
+        (free_in logs.old r) Task.Idle (Op.Write off text.now))
+        (owned_of x board.now) own.old (owned_of x board.now) own.new a) }
+    ensures logs { (x : BookPath PlainHold) → EventSound s.now n (Op.Write off text.now) r
+        (record { owned = owned_of x board.now; client = own.old; task = Task.Idle; logs = logs.old })
+        → IfOk result (λ a. LogsSettle s.now n r (is_accepted a)
+        (record { owned = owned_of x board.now; client = own.old; task = Task.Idle; logs = logs.old })
+        (record { owned = owned_of x board.now; client = own.new; task = Task.Idle; logs = logs.new })) }
+    ensures sound { (x : BookPath PlainHold) → EventSound s.now n (Op.Write off text.now) r
+        (record { owned = owned_of x board.now; client = own.old; task = Task.Idle; logs = logs.old })
+        → OnOk result (AreSound s.now (owned_of x board.now) own.new) }
 {
     if !own.is_open {
         return Ok(Answer::BadF);
     }
-    let front = own.noted.later(path.board);
+    let front = own.noted.later(board.told);
     let v = front.version;
     if !front.exists {
         own.note(v, false);

@@ -1,42 +1,20 @@
 //! What is read of a run: journals, files and slots for a report, and the devices at the end.
 
-ghost use Rattle.std.specs.Prelude.{◌≡◌, ◌<◌, ◌≤◌, false, Some, slice_get, length, map, Contains, IfSome, IfNone, IfOk};
-ghost use Rattle.fs_script.specs.Report.{AreRising, file_state_of};
+ghost use Rattle.std.specs.Prelude.{◌≡◌, ◌<◌, false, Some, slice_get, length, map, IfOk};
+ghost use Rattle.fs_script.specs.Report.{file_state_of};
 ghost use Rattle.core_machine.specs.Moment.{journal, file_now};
 ghost use Rattle.core_machine.specs.Slots.{census, count_in};
-ghost use Rattle.core_machine.specs.OwnerFiles.{AreFiled, owned_at};
 ghost use Rattle.core_machine.specs.Logs.{device_state};
 ghost use Rattle.core_machine.specs.Core.{IsRun, moment};
 
+use crate::books;
 use crate::file_state::file_state;
 use crate::logs::into_devices;
-use crate::owner_files::OwnerFiles;
-use crate::owners::owned;
-use crate::path_state::OwnedPath;
-use crate::path_table::PathTable;
 use crate::run::Run;
 use fs_dev::SpillDev;
 use fs_types::{FileState, LineNo, Path, Rank, SlotLine, Want};
+use placement::{gfid_of, owner_of};
 use slot_plain::PlainLog;
-
-// What its owner, one of so many servers, keeps for a path that the script names.
-fn kept<'o>(
-    paths: &PathTable,
-    owners: &'o [OwnerFiles],
-    servers: u32,
-    p: &Path,
-) -> Option<&'o OwnedPath>
-    requires some { 1 ≤ servers }
-    requires lists { length owners.now ≡ servers }
-    requires filed { AreFiled owners.now paths.now }
-    ensures there { IfSome result (λ x. owned_at owners.now p.now ≡ Some x.now) }
-    ensures named { IfSome result (λ _. Contains paths.now p.now) }
-    ensures absent { IfNone result (Contains paths.now p.now → ⊥) }
-    ensures rising { AreRising paths.now }
-{
-    paths.index_of(p)?;
-    owned(owners, servers, p)
-}
 
 /// The journal of a path, empty where the script doesn't name it.
 #[tactic(auto, using(crate::proofs::Refines::Reads::kept_reads))]
@@ -44,10 +22,10 @@ pub fn journal<'r, D: SpillDev + Drop>(run: &'r Run<'_, D>, p: &Path) -> &'r [Li
     requires { IsRun run.now }
     ensures { result.now ≡ journal (moment run.now) p.now }
 {
-    match kept(&run.paths, &run.owners, run.script.shape().servers, p) {
-        Some(path) => &path.journal,
-        None => &[],
+    if run.paths.index_of(p).is_none() {
+        return &[];
     }
+    books::journal(&run.books, run.script.shape().servers, p)
 }
 
 /// The file of a path, by the bytes in the logs. Once memory ran out what is kept is open, and the
@@ -56,15 +34,19 @@ pub fn journal<'r, D: SpillDev + Drop>(run: &'r Run<'_, D>, p: &Path) -> &'r [Li
 pub fn file<D: SpillDev + Drop>(run: &mut Run<'_, D>, p: &Path) -> Result<FileState, Want>
     requires { IsRun run.old }
     ensures file { IfOk result (λ f. f ≡ file_state_of (file_now (moment run.old) p.now)) }
-    ensures same { run.new ≡ run.old }
+    ensures run { IsRun run.new }
+    ensures same { moment run.new ≡ moment run.old }
 {
     if run.spent {
         return Err(Want);
     }
-    match kept(&run.paths, &run.owners, run.script.shape().servers, p) {
-        Some(path) => file_state(run.alloc, path, &mut run.logs),
-        None => Ok(FileState::Gone),
+    if run.paths.index_of(p).is_none() {
+        return Ok(FileState::Gone);
     }
+    let gfid = gfid_of(p);
+    let owner = owner_of(gfid, run.script.shape().servers);
+    let book = &mut run.books[owner.0 as usize];
+    file_state(run.alloc, book, gfid, p, &mut run.logs)
 }
 
 // The log of a client that the job has.

@@ -1,4 +1,5 @@
 mod cases;
+mod lives;
 mod many_clients;
 mod many_writes;
 mod refusals;
@@ -6,6 +7,7 @@ mod refusals;
 use self::cases::{
     CASES, FIVE_LINES, FIVE_LINES_REPORT, READ_BESIDE_SYNC, READ_BESIDE_SYNC_REPORTS,
 };
+use self::lives::LIVES;
 use self::many_clients::{neighbours_job, neighbours_report};
 use self::many_writes::{overwriting_job, overwriting_report};
 use self::refusals::{FOUR_CLIENTS, HEADERS, LINES, SHAPES, SIZES, free_slots};
@@ -61,9 +63,11 @@ fn ended_calm(alloc: Global, texts: &[&str], bytes: &[u8]) -> Result<(Status, Me
 
 #[test]
 fn each_call_has_its_status_and_output(rt: HostRuntime) -> Result<(), Fail> {
-    for (i, (texts, bytes, status, output)) in CASES.iter().enumerate() {
-        let (ends, sink) = ended(&rt, rt.alloc(), texts, bytes)?;
-        assert!(rt; ends == *status && sink.bytes() == *output, "case {i}");
+    for cases in [CASES.as_slice(), LIVES.as_slice()] {
+        for (i, (texts, bytes, status, output)) in cases.iter().enumerate() {
+            let (ends, sink) = ended(&rt, rt.alloc(), texts, bytes)?;
+            assert!(rt; ends == *status && sink.bytes() == *output, "case {i}");
+        }
     }
     Ok(())
 }

@@ -7,6 +7,6 @@ use Rattle.core_machine.proofs.fetching.fetch_all.Given as goal
 
 abbrev pub invariant-loop-run : goal.invariant-loop-run
 invariant-loop-run g l = record {
-  bytes : (s : Job) → HoldsStand s l.initial.logs (hold_of l.file.held.pieces) → HasBytes s (take l.run-index l.runs) l.bytes;
+  bytes : (s : Job) → HoldsStand s l.initial.logs (hold_of l.found) → HasBytes s (take l.run-index l.runs) l.bytes;
   logs : l.logs ≡ l.initial.logs;
 }

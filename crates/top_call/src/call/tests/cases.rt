@@ -10,7 +10,7 @@ pub type Case = (
     &'static [u8],
 );
 
-const SIM: &[&str] = &["sim", "0"];
+pub const SIM: &[&str] = &["sim", "0"];
 
 const SIM_1: &[&str] = &["sim", "1"];
 

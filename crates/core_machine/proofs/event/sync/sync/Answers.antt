@@ -1,101 +1,95 @@
-use Rattle.fs_types.proofs.Common.{◌≡◌, ◌∙◌, true, true≢false, None, Some, is_some, cond, ap, sym, refl, common_steps, arith, rules}
-use Rattle.fs_script.specs.Vocabulary.{Piece, effect_of, has_any, marks_in}
+use Rattle.fs_types.proofs.Common.{◌≡◌, arith, common_steps, false, refl, true}
+use Rattle.fs_script.specs.Vocabulary.{has_any}
 use Rattle.fs_script.specs.declared.line.Op.TheVariants.{Sync}
-use Rattle.core_machine.specs.Event.{Event}
-use Rattle.core_machine.specs.Kept.{file_hold, file_marks, pending_hold, pending_lines}
-use Rattle.core_machine.proofs.Commits.{kept-committed}
-use Rattle.core_machine.proofs.LetGo.{settle-same}
-use Rattle.core_machine.proofs.SyncLogs.{commits, emptied, forgets, sync-event, sync-marks}
+use Rattle.owner_book.specs.Commits.{with_commit}
+use Rattle.owner_book.specs.Kept.{path_in}
+use Rattle.core_machine.specs.declared.plain_hold.PlainHold.{PlainHold}
+use Rattle.core_machine.specs.Kept.{owned_in, pending_lines}
+use Rattle.core_machine.proofs.BooksOfPaths.{ChangesOne-changed, ChangesOne-same, path-changed}
+use Rattle.core_machine.proofs.EmptiedLines.{CommitsLine, apart-committed, ends-closed, ends-committed, ends-refused}
+use Rattle.core_machine.proofs.EmptiedLines.{held-committed, holds-there, told-file}
+use Rattle.core_machine.proofs.PushedPending.{may-commit}
+use Rattle.core_machine.proofs.SyncEvents.{closed-sync, commits-synced, ends-empty, refused-sync}
 use Rattle.core_machine.proofs.event.sync.sync.Goals as goal
+use Rattle.core_machine.proofs.event.sync.sync.Goals.{In-Ok}
+use Rattle.core_machine.proofs.event.sync.sync.Given.{Over}
 
-pub returns-then-not-own-clause-logs : goal.returns-then-not-own-clause-logs
-returns-then-not-own-clause-logs g c = λ r.
-    settle-same c.args.s.now c.args.n r c.args.path.now c.args.path.now c.args.own.now c.args.own.now c.args.logs.now
-    (record { files = λ q. refl; pending = λ q. refl }) c.requires.1.stand c.requires.1.held
+pub returns-then-not-own-clause-done : goal.returns-then-not-own-clause-done
+returns-then-not-own-clause-done g c =
+    let x = owned_in c.args.book.now c.args.gfid c.args.p.now c.args.board.now in
+    let closed : c.args.own.now.is_open ≡ false = grind (arith, common_steps) in
+    ends-closed c.args.s.now c.args.n Sync c.requires.0 x c.args.own.now c.args.logs.now c.requires.1
+    (closed-sync c.args.s.now x c.args.own.now closed) refl
 
-pub returns-then-is_empty-clause-logs : goal.returns-then-is_empty-clause-logs
-returns-then-is_empty-clause-logs g c = λ r.
-    settle-same c.args.s.now c.args.n r c.args.path.now _ c.args.own.now _ c.args.logs.now
-    (record {
-      files = λ q. ap (λ f. file_hold f q) (sym c.in-Some.is);
-      pending = λ q. ap (λ k. pending_hold k q) c.note-then-is_empty.ensures;
-    })
-    c.requires.1.stand c.requires.1.held
-
-pub clear-requires : goal.clear-requires
-clear-requires g c = record { are_held = c.requires.1.whole.sound.pending.are_held }
-
-pub release_all-requires-clause-held : goal.release_all-requires-clause-held
-release_all-requires-clause-held g c =
-    (forgets c.args.s.now c.args.n c.requires.0 c.args.path.now c.args.path.now c.args.own.now
-    (record c.args.own.now { pending = c.clear.new.self }) c.args.logs.now c.clear.new.self c.new-dead.result.items
-    c.clear.new.dead.items c.deref.result.now c.requires.1 refl c.in_ok-clear.ensures.none c.new-dead.ensures.items c.deref.ensures.value
-    c.in_default.is c.in_default.is c.in_ok-clear.ensures.dead).are_held
-
-pub release_all-requires-clause-apart : goal.release_all-requires-clause-apart
-release_all-requires-clause-apart g c =
-    (forgets c.args.s.now c.args.n c.requires.0 c.args.path.now c.args.path.now c.args.own.now
-    (record c.args.own.now { pending = c.clear.new.self }) c.args.logs.now c.clear.new.self c.new-dead.result.items
-    c.clear.new.dead.items c.deref.result.now c.requires.1 refl c.in_ok-clear.ensures.none c.new-dead.ensures.items c.deref.ensures.value
-    c.in_default.is c.in_default.is c.in_ok-clear.ensures.dead).apart
-
-pub returns-in_default-clause-logs : goal.returns-in_default-clause-logs
-returns-in_default-clause-logs g c = λ r.
-    (forgets c.args.s.now c.args.n c.requires.0 c.args.path.now c.args.path.now c.args.own.now c.note.new.self c.args.logs.now
-    c.clear.new.self c.new-dead.result.items c.clear.new.dead.items c.deref.result.now c.requires.1 (ap (λ k. k.pending) c.note.ensures)
-    c.in_ok-clear.ensures.none c.new-dead.ensures.items c.deref.ensures.value c.in_default.is c.in_default.is
-    c.in_ok-clear.ensures.dead).settle r c.release_all.new.logs c.release_all.ensures
-
-pub release_all-requires-2-clause-held : goal.release_all-requires-2-clause-held
-release_all-requires-2-clause-held g c =
-    (commits c.args.s.now c.args.n c.requires.0 c.args.path.now (record c.args.path.now { file = Some c.commit.new.self })
-    c.args.own.now (record c.args.own.now { pending = c.commit.new.more }) c.args.logs.now c.commit.new.more c.new-dead.result.items
-    c.commit.new.dead.items c.deref-2.result.now c.requires.1 refl c.in_ok-commit.ensures.taken c.new-dead.ensures.items
-    c.deref-2.ensures.value c.in-Some.file c.commit.new.self c.in-Some.is refl c.in_ok-commit.ensures.puts
-    c.in_ok-commit.ensures.dead).are_held
-
-pub release_all-requires-2-clause-apart : goal.release_all-requires-2-clause-apart
-release_all-requires-2-clause-apart g c =
-    (commits c.args.s.now c.args.n c.requires.0 c.args.path.now (record c.args.path.now { file = Some c.commit.new.self })
-    c.args.own.now (record c.args.own.now { pending = c.commit.new.more }) c.args.logs.now c.commit.new.more c.new-dead.result.items
-    c.commit.new.dead.items c.deref-2.result.now c.requires.1 refl c.in_ok-commit.ensures.taken c.new-dead.ensures.items
-    c.deref-2.ensures.value c.in-Some.file c.commit.new.self c.in-Some.is refl c.in_ok-commit.ensures.puts
-    c.in_ok-commit.ensures.dead).apart
-
-pub returns-clause-follows : goal.returns-clause-follows
-returns-clause-follows g c = λ free.
-    let s = c.args.s.now in
-    let x = c.args.path.now in
+pub returns-then-not-attr-clause-done : goal.returns-then-not-attr-clause-done
+returns-then-not-attr-clause-done g c =
+    let x = owned_in c.args.book.now c.args.gfid c.args.p.now c.args.board.now in
     let k = c.args.own.now in
-    let l = c.note-2.new.self in
-    let none : (q : Piece) → pending_hold l q ≡ None = λ q.
-    emptied l c.commit.new.more q (ap (λ w. w.pending) c.note-2.ensures) c.in_ok-commit.ensures.taken in
-    record {
-      journal = grind (arith, common_steps);
-      marks =
-          let any : has_any (pending_lines k) ≡ true = grind (arith, common_steps) in
-          let opened : k.is_open ≡ true = grind (arith, common_steps) in
-          sync-marks s c.in-Some.file c.commit.new.self (pending_lines k) c.in_ok-commit.ensures.marks
-          ∙ ap (λ f. effect_of s (marks_in s) Sync (pending_lines k) (file_marks f)) (sym c.in-Some.is)
-          ∙ sym (ap (λ (e : Event). cond e.commits (effect_of s (marks_in s) Sync (pending_lines k) (file_marks x.file))
-          (file_marks x.file))
-          (sync-event s x k c.in-Some.file free opened c.in-Some.is any));
-      board = search rules;
-      opened = search rules;
-      pending = grind (arith, common_steps);
-      version = grind (arith, common_steps);
-      within = λ seen told looked. grind (arith, common_steps);
-      known = λ at knows looked. grind (arith, common_steps);
-      owned = kept-committed x (record x { file = Some c.commit.new.self }) k l c.in-Some.file c.commit.new.self c.in-Some.is refl
-          c.requires.1.whole.sound.pending.are_held.named c.in_ok-commit.ensures.puts;
-      pieces = λ q some. absurd (true≢false (sym some ∙ ap is_some (none q)));
-    }
+    let opened : k.is_open ≡ true = grind (arith, common_steps) in
+    let absent : c.attr-v.result.1.exists ≡ false = grind (arith, common_steps) in
+    ends-refused c.args.s.now c.args.n Sync c.requires.0 x k c.args.logs.now c.requires.1 c.attr-v.result c.find_no_file.new.own
+    c.find_no_file.new.logs c.attr-v.ensures.attr absent (refused-sync c.args.s.now x k opened) (λ v. refl) c.find_no_file.result
+    c.find_no_file.ensures.answer c.find_no_file.ensures.noted c.find_no_file.ensures.drops
 
-pub returns-clause-logs : goal.returns-clause-logs
-returns-clause-logs g c = λ r.
-    (commits c.args.s.now c.args.n c.requires.0 c.args.path.now
-    (record { journal = c.push.new.self; file = Some c.commit.new.self; board = c.args.path.now.board }) c.args.own.now c.note-2.new.self
-    c.args.logs.now c.commit.new.more c.new-dead.result.items c.commit.new.dead.items c.deref-2.result.now c.requires.1
-    (ap (λ k. k.pending) c.note-2.ensures) c.in_ok-commit.ensures.taken c.new-dead.ensures.items c.deref-2.ensures.value c.in-Some.file
-    c.commit.new.self c.in-Some.is refl c.in_ok-commit.ensures.puts c.in_ok-commit.ensures.dead).settle
-    r c.release_all-2.new.logs c.release_all-2.ensures
+pub returns-then-is_empty-clause-done : goal.returns-then-is_empty-clause-done
+returns-then-is_empty-clause-done g c =
+    let x = owned_in c.args.book.now c.args.gfid c.args.p.now c.args.board.now in
+    let opened : c.args.own.now.is_open ≡ true = grind (arith, common_steps) in
+    let there : c.attr-v.result.1.exists ≡ true = grind (arith, common_steps) in
+    ends-empty c.args.s.now x c.args.own.now c.args.n c.requires.0 c.args.logs.now c.requires.1 c.attr-v.result c.note.new.self
+    c.attr-v.ensures.attr there opened (c.if-is_empty.ensures.0 refl) c.note.ensures
+
+pub commit-requires-clause-holds : goal.commit-requires-clause-holds
+commit-requires-clause-holds g c = holds-there _ c.requires.1.whole.sound.written
+
+pub commit-requires-clause-push : goal.commit-requires-clause-push
+commit-requires-clause-push g c =
+    may-commit c.args.s.now c.args.own.now.pending c.in_ok-push.push (path_in c.args.book.now c.args.gfid c.args.p.now)
+    c.requires.1.whole.sound.pending c.in_ok-push.ensures.push c.requires.1.whole.sound.apart
+
+pub returns-in_default-clause-others : goal.returns-in_default-clause-others
+returns-in_default-clause-others g c =
+    ChangesOne-same c.args.book.now c.commit.new.self c.args.gfid c.args.p.now c.in_default.ensures.same
+
+-- what the sync made of the file
+commits : (g : Over) (c : In-Ok g) → CommitsLine c.args.s.now c.args.n Sync (path_in c.args.book.now c.args.gfid c.args.p.now)
+    (path_in c.commit.new.self c.args.gfid c.args.p.now) c.args.board.now c.args.own.now c.in-Ok.done.dead.items
+commits g c =
+    let k = c.args.own.now in
+    let x = path_in c.args.book.now c.args.gfid c.args.p.now in
+    let there : c.attr-v.result.1.exists ≡ true = grind (arith, common_steps) in
+    let f = told-file c.attr-v.result x c.attr-v.ensures.attr there in
+    let opened : k.is_open ≡ true = grind (arith, common_steps) in
+    let any : has_any (pending_lines k) ≡ true = grind (arith, common_steps) in
+    commits-synced c.args.s.now c.args.n x (path_in c.commit.new.self c.args.gfid c.args.p.now) c.args.board.now k f.0 c.in_ok-push.push
+    c.in-Ok.done.dead.items c.requires.1.whole.sound f.1 opened any c.in_ok-push.ensures.push
+    (path-changed c.args.book.now c.commit.new.self c.args.gfid c.args.p.now
+    (with_commit (λ (h : PlainHold). h.piece) c.args.n c.in_ok-push.push x) c.in-Ok.ensures.committed)
+    c.in-Ok.ensures.holds c.in-Ok.ensures.dead
+
+pub finish_commit-requires-clause-held : goal.finish_commit-requires-clause-held
+finish_commit-requires-clause-held g c =
+    held-committed c.args.s.now c.args.n Sync c.requires.0 (path_in c.args.book.now c.args.gfid c.args.p.now)
+    (path_in c.commit.new.self c.args.gfid c.args.p.now) c.args.board.now c.args.own.now c.args.logs.now c.take.new.self c.in-Ok.done
+    c.requires.1 c.in_ok-push.ensures.none (commits g (goal.at.finish_commit-requires-clause-held g c).In-Ok)
+
+pub finish_commit-requires-clause-apart : goal.finish_commit-requires-clause-apart
+finish_commit-requires-clause-apart g c =
+    apart-committed c.args.s.now c.args.n Sync c.requires.0 (path_in c.args.book.now c.args.gfid c.args.p.now)
+    (path_in c.commit.new.self c.args.gfid c.args.p.now) c.args.board.now c.args.own.now c.args.logs.now c.take.new.self c.in-Ok.done
+    c.requires.1 c.in_ok-push.ensures.none (commits g (goal.at.finish_commit-requires-clause-apart g c).In-Ok)
+
+pub returns-clause-done : goal.returns-clause-done
+returns-clause-done g c =
+    let x = path_in c.args.book.now c.args.gfid c.args.p.now in
+    let y = path_in c.commit.new.self c.args.gfid c.args.p.now in
+    ends-committed c.args.s.now c.args.n Sync c.requires.0 x y c.args.board.now c.args.own.now c.args.logs.now c.take.new.self c.in-Ok.done
+    c.requires.1 c.in_ok-push.ensures.none (commits g (goal.at.returns-clause-done g c).In-Ok) c.in-Ok.ensures.version c.in-Ok.ensures.attr
+    c.finish_commit.new.board c.finish_commit.new.own c.finish_commit.new.logs c.finish_commit.result c.finish_commit.ensures.answer
+    c.finish_commit.ensures.board c.finish_commit.ensures.noted c.finish_commit.ensures.logs
+
+pub returns-clause-others : goal.returns-clause-others
+returns-clause-others g c =
+    let x = path_in c.args.book.now c.args.gfid c.args.p.now in
+    ChangesOne-changed c.args.book.now c.commit.new.self c.args.gfid c.args.p.now
+    (with_commit (λ (h : PlainHold). h.piece) c.args.n c.in_ok-push.push x) c.in-Ok.ensures.committed
