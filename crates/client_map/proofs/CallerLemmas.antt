@@ -2,16 +2,21 @@
 
 -- what a line writes is told by the holds of its parts
 pub use Rattle.client_map.proofs.WriteParts.{write_of-parts}
-use Rattle.fs_types.proofs.Common.{◌≡◌, ℕ, ◌+◌, ◌≤◌, Bool, List, Some, IsTrue, refl, sym, subst, cond_both, arith, none-some, bytes_eq, ap, ◌∙◌}
+-- when it may be added, and which mark stands at each place then, where all ends, and which hold each piece has
+pub use Rattle.client_map.proofs.Added.{ArePartHolds, part-holds, may-add, marks-added, ends-added, holds-added}
+-- all fragments that are pending end by the last end, which is the first such place, and within the longest file
+pub use Rattle.client_map.proofs.Ends.{pending_end-ends, pending_end-least, pending_end-in_file}
+-- what is pending on the path of a change, and on every other
+pub use Rattle.client_map.proofs.Paths.{at-changed, at-other, at-another}
+use Rattle.fs_types.proofs.Common.{◌≡◌, ℕ, ◌≤◌, Bool, List, Some, IsTrue, refl, sym, subst, cond_both, arith, none-some, bytes_eq}
 use Rattle.fs_types.specs.Fragments.{end_of}
 use Rattle.fs_types.specs.Pieces.{Piece}
 use Rattle.span_list.proofs.CallerLemmas.{AllPairs-nil}
 use Rattle.piece_table.specs.HeldSpans.{AreHeld, Held}
 use Rattle.piece_table.proofs.CallerLemmas.{held-anew}
-use Rattle.client_map.specs.Calls.{AllHaveHolds, Changes, HasHolds, IsAsBefore}
+use Rattle.client_map.specs.Calls.{AllHaveHolds, Changes, IsAsBefore}
 use Rattle.client_map.specs.HoldLends.{with_hold}
 use Rattle.client_map.specs.Kept.{MapKept, nothing_pending, pending_in}
-use Rattle.client_map.proofs.Paths.{at-changed}
 
 module _ {H : Type 0} (is_ready : H → Bool) (piece : H → Piece) (byte_count : H → ℕ) where
   -- where nothing is pending no piece has a hold

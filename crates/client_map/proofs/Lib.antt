@@ -1,5 +1,7 @@
 pub mod WriteParts
 pub mod Paths
 pub mod WriteMarks
+pub mod Ends
 pub mod Standing
+pub mod Added
 pub mod CallerLemmas

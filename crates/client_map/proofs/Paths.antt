@@ -1,6 +1,6 @@
 -- Paths under their texts: what is pending on each once something else is kept of one.
 use Rattle.fs_types.proofs.Common.{◌≡◌, ℕ, Bool, true, false, if◌then◌else◌, List, Option, Some, None, is_some, refl, Vec, Global}
-use Rattle.fs_types.proofs.Common.{◌∙◌, sym, ap, subst, true≢false, bytes_eq, bytes_eq-Decides}
+use Rattle.fs_types.proofs.Common.{◌∙◌, ◌≢◌, sym, ap, subst, true≢false, false_from_ne_true, bytes_eq, bytes_eq-Decides}
 use Rattle.std.specs.Prelude.{OnSome}
 use Rattle.std.specs.Map.{IsKeyTest, AreApart, KeepsOthers}
 use Rattle.indexmap.specs.IndexMap.{IndexMap, get_by, UpdatesBy}
@@ -63,6 +63,16 @@ module _ {H : Type 0} where
   -- what is pending on the path that changed
   pub at-changed : (old new : MapKept H) (p : List ℕ) (x : Held H) → Changes old new p x → pending_in new p ≡ x
   at-changed old new p x changes = changes.paths p ∙ ap (λ b. if b then x else pending_in old p) (bytes_eq-itself p)
+
+  -- and on every other path
+  pub at-other : (old new : MapKept H) (p : List ℕ) (x : Held H) → Changes old new p x → (q : List ℕ) → bytes_eq q p ≡ false
+      → pending_in new q ≡ pending_in old q
+  at-other old new p x changes q other = changes.paths q ∙ ap (λ b. if b then x else pending_in old q) other
+
+  pub at-another : (old new : MapKept H) (p : List ℕ) (x : Held H) → Changes old new p x → (q : List ℕ) → q ≢ p
+      → pending_in new q ≡ pending_in old q
+  at-another old new p x changes q another =
+      at-other old new p x changes q (false_from_ne_true (bytes_eq q p) (λ same. another ((bytes_eq-Decides q p).0 same)))
 
   -- a change to what was there is none
   pub unchanged : (old new : MapKept H) (p : List ℕ) (x : Held H) → Changes old new p x → x ≡ pending_in old p → IsAsBefore old new

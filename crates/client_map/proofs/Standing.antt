@@ -1,15 +1,15 @@
 -- What is pending after one deed more.
 use Rattle.std.proofs.lemmas.Grind.{fold-append}
-use Rattle.fs_types.proofs.Common.{◌≡◌, ℕ, ◌<◌, Bool, true, false, if◌then◌else◌, List, [], ◌∷◌, ◌++◌, length, refl, sym, ap, ◌∙◌, subst, subst₂, arith}
+use Rattle.fs_types.proofs.Common.{◌≡◌, ℕ, Bool, true, false, if◌then◌else◌, List, [], ◌∷◌, ◌++◌, refl, sym, ap, ◌∙◌, subst, arith}
 use Rattle.fs_types.proofs.Common.{bytes_eq, bytes_eq-Decides}
 use Rattle.fs_types.specs.Pieces.{Piece}
 use Rattle.piece_table.specs.HeldSpans.{Held}
-use Rattle.client_map.specs.Calls.{Changes, IsAsBefore}
+use Rattle.client_map.specs.Calls.{Changes}
 use Rattle.client_map.specs.Kept.{MapKept, nothing_pending, pending_in}
 use Rattle.client_map.specs.PendingWrites.{AddedStands, Deed, HaveMarks, LentStands, NewStands, SameStands, StandsFor, TakenStands, TakingEmpties}
 use Rattle.client_map.specs.PendingWrites.{addition, pending_writes, taking, writes_after}
 use Rattle.client_map.specs.Writes.{Write}
-use Rattle.client_map.proofs.Paths.{at-changed, bytes_eq-itself}
+use Rattle.client_map.proofs.Paths.{at-changed, at-other, bytes_eq-itself}
 use Rattle.client_map.proofs.WriteMarks.{have-added}
 
 have-none : (chunk : ℕ) → HaveMarks chunk [] []
@@ -60,7 +60,7 @@ module _ {H : Type 0} where
           (have deeds' new p old.chunk ws x changes.chunk here (at-changed old new p x changes) marks)
       by false e =
           have deeds' new q old.chunk (pending_writes deeds q) (pending_in old q) changes.chunk (others q e)
-          (changes.paths q ∙ ap (λ b. if b then x else pending_in old q) e) (stands q)
+          (at-other old new p x changes q e) (stands q)
 
   pub added-stands : (piece : H → Piece) → AddedStands piece
   added-stands piece deeds old new p w holds some has_bytes in_file puts changes stands =

@@ -94,6 +94,25 @@ module _ (chunk : ℕ) (w : Write) (some : 0 < chunk) where
       (λ i below. part-begins chunk w some i (omega (arith, below)))
       ∙ ap (λ at. cond (nat_le at k && nat_lt k (w.off + w.len)) (mark_there k) None) first
 
+  -- ---- put over others
+
+  module _ (fs new : List Fragment) (put_over : new ≡ put_fragments (parts_of chunk w) fs) where
+    -- where the write stands are its marks, and elsewhere those that were there
+    pub marks-put : (k : ℕ) → mark_at new k ≡ cond (nat_le w.off k && nat_lt k (w.off + w.len)) (mark_there k) (mark_at fs k)
+    marks-put k =
+        ap (λ us. mark_at us k) put_over ∙ mark_at-put_ordered (parts_of chunk w) fs k (parts-ordered chunk w some)
+        ∙ ap (λ o. option_or o (mark_at fs k)) (marks-parts k)
+        ∙ or-cond (nat_le w.off k && nat_lt k (w.off + w.len)) (mark_of chunk w.line (k - w.off)) (mark_at fs k)
+
+    -- all end by a place by which the write ends, and all others
+    pub ends-put : (e : ℕ) → All (λ f. end_of f ≤ e) fs → w.off + w.len ≤ e → All (λ f. end_of f ≤ e) new
+    ends-put e ends reach =
+        subst (All (λ f. end_of f ≤ e)) (sym put_over)
+        (ends-put_fragments (parts_of chunk w) fs e
+        (All-weaker (λ f. end_of f ≤ w.off + w.len) (λ f. end_of f ≤ e) (λ f end. omega (arith, end, reach)) (parts_of chunk w)
+        (parts-end chunk w some))
+        ends)
+
   -- ---- one write more
 
   module _ (ws : List Write) (fs new : List Fragment) (has_bytes : 0 < w.len) (in_file : w.off + w.len ≤ LONGEST_FILE)
@@ -122,12 +141,10 @@ module _ (chunk : ℕ) (w : Write) (some : 0 < chunk) where
 
     ends : All (λ f. end_of f ≤ length after) new
     ends =
-        subst (All (λ f. end_of f ≤ length after)) (sym put_over)
-        (ends-put_fragments (parts_of chunk w) fs (length after)
-        (All-weaker (λ f. end_of f ≤ w.off + w.len) (λ f. end_of f ≤ length after) (λ f end. omega (arith, end, length-after))
-        (parts_of chunk w) (parts-end chunk w some))
+        ends-put fs new put_over (length after)
         (All-weaker (λ f. end_of f ≤ length before) (λ f. end_of f ≤ length after) (λ f end. omega (arith, end, length-after)) fs
-        have.within))
+        have.within)
+        (omega (arith, length-after))
 
     brought-at : (k : ℕ) → (nat_le w.off k && nat_lt k (w.off + length brought)) ≡ true → get_or brought (k - w.off) no_mark ≡ mark_there k
     brought-at k inside =
@@ -137,9 +154,7 @@ module _ (chunk : ℕ) (w : Write) (some : 0 < chunk) where
 
     mark-after : (k : ℕ) → mark_at new k ≡ get_or after k no_mark
     mark-after k =
-        ap (λ us. mark_at us k) put_over ∙ mark_at-put_ordered (parts_of chunk w) fs k (parts-ordered chunk w some)
-        ∙ ap (λ o. option_or o (mark_at fs k)) (marks-parts k)
-        ∙ or-cond (nat_le w.off k && nat_lt k (w.off + w.len)) (mark_of chunk w.line (k - w.off)) (mark_at fs k)
+        marks-put fs new put_over k
         ∙ (λ d. cond (nat_le w.off k && nat_lt k (w.off + sym long d)) (mark_there k)
         ((sym (get_or-marks fs (length before) k have.within) ∙ ap (λ ms. get_or ms k no_mark) have.marks) d))
         ∙ sym (ap (λ ms. get_or ms k no_mark) is_put ∙ get_or-put no_mark before w.off brought k

@@ -1,15 +1,17 @@
 -- The parts of a write: where they stand, and the pieces that they name.
 use Rattle.fs_types.proofs.Common.{◌≡◌, ℕ, ◌+◌, ◌-◌, ◌*◌, ◌^◌, ◌<◌, ◌≤◌, min, List, length, get_or, All}
 use Rattle.fs_types.proofs.Common.{[], ◌∷◌, sym, ap, ◌∙◌, subst, arith, nat_tests, cases_lt, inl, inr, All-map, All-weaker, get_or-map, length-map}
-use Rattle.fs_types.proofs.Common.{length-map-range_with_len, get_or-map-range_with_len}
+use Rattle.fs_types.proofs.Common.{length-map-range_with_len, get_or-map-range_with_len, false, false_from_ne_true}
 use Rattle.std.specs.Prelude.{AllPairs}
 use Rattle.std.proofs.Math.Nat.{le-mul_of_pos_right}
 use Rattle.std.proofs.lemmas.Grind.{div_ceil_times}
-use Rattle.fs_types.specs.Fragments.{AreHeldFragments, HeldPiece, LiesWithin, end_of, fragment_count, held_pieces}
+use Rattle.std.proofs.lemmas.List.Folds.{list_any_none}
+use Rattle.fs_types.specs.Fragments.{AreHeldFragments, HeldPiece, LiesWithin, end_of, fragment_count, held_pieces, piece_eq}
 use Rattle.fs_types.specs.Pieces.{Fragment, Piece}
 use Rattle.fs_types.specs.declared.limits.TheConstants.{LONGEST_FILE}
 use Rattle.span_list.specs.Spans.{AreSpans, IsSpan}
-use Rattle.piece_table.proofs.CallerLemmas.{All-named, AreApart, counts_same, few_of, named_some}
+use Rattle.piece_table.specs.HeldSpans.{is_named}
+use Rattle.piece_table.proofs.CallerLemmas.{All-named, AreApart, counts_same, few_of, named_some, same_piece}
 use Rattle.client_map.specs.Writes.{Write, line_of, part_of, part_count, parts_of, pieces_of, write_of}
 
 module _ (chunk : ℕ) (w : Write) (some : 0 < chunk) where
@@ -90,6 +92,15 @@ module _ (chunk : ℕ) (w : Write) (some : 0 < chunk) where
         few_of (λ (f : Fragment). f.piece) q (parts_of chunk w) parts-apart,
         named_some q (parts_of chunk w) (All-named (parts_of chunk w) k d inside),
       )
+
+  -- no piece is named that is of another line, or behind the last part
+  pub parts-unnamed : (q : Piece) → (w.line ≡ q.line → part_count chunk w ≤ q.part) → is_named (parts_of chunk w) q ≡ false
+  parts-unnamed q behind =
+      list_any_none (λ f. piece_eq f.piece q) (parts_of chunk w) (All-parts (λ f. piece_eq f.piece q ≡ false) (λ k below.
+      false_from_ne_true (piece_eq (part_of chunk w k).piece q) (λ is.
+      let same : (part_of chunk w k).piece ≡ q = same_piece (part_of chunk w k).piece q is in
+      let part : k ≡ q.part = ap (λ (x : Piece). x.part) same in
+      absurd (omega (arith, below, part, behind (ap (λ (x : Piece). x.line) same))))))
 
   -- they may be sent with a hold of each piece
   parts-held : w.off + w.len ≤ LONGEST_FILE → AreHeldFragments LONGEST_FILE (parts_of chunk w) (pieces_of chunk w)

@@ -1,8 +1,10 @@
 -- What a map keeps, and what is pending on each path.
-use Rattle.std.specs.Prelude.{◌≡◌, ℕ, ◌≤◌, Bool, List, [], length, Option, Some, None, Vec, vec_len, vec_capacity}
+use Rattle.std.specs.Prelude.{◌≡◌, ℕ, ◌≤◌, max, Bool, List, [], ◌∷◌, length, Option, Some, None, Vec, vec_len, vec_capacity}
 use Rattle.std.specs.Map.{lookup}
 use Rattle.std.specs.Str.{bytes_eq}
 use Rattle.std.specs.declared.alloc.Global.{Global}
+use Rattle.fs_types.specs.Fragments.{end_of}
+use Rattle.fs_types.specs.Pieces.{Fragment}
 use Rattle.piece_table.specs.HeldSpans.{Held, Kept, held}
 use Rattle.client_map.specs.declared.push_room.PushRoom.{PushRoom}
 
@@ -18,6 +20,16 @@ pub record HasRoomForAll {H : Type 0} (kept : Kept H) (room : PushRoom H) : Type
   pub most : length kept.fragments ≤ room.most
   pub frags : room.most ≤ vec_capacity room.frags
   pub holds : length kept.pieces.entries ≤ vec_capacity room.holds
+
+-- where the last byte of fragments ends, and 0 where there are none
+abbrev pub pending_end : List Fragment → ℕ
+pending_end [] = 0
+pending_end (f ∷ fs) = max (end_of f) (pending_end fs)
+
+-- the last byte that is kept of a path ends there, and there is room for all
+pub record IsPathKept {H : Type 0} (kept : Kept H) (last : ℕ) (vectors : PushRoom H) : Type 0 where
+  pub end : last ≡ pending_end kept.fragments
+  pub room : HasRoomForAll kept vectors
 
 -- a key is this text
 abbrev pub is_text : List ℕ → Vec ℕ Global → Bool

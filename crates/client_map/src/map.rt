@@ -1,15 +1,16 @@
 //! What one client has pending, path by path.
 
-ghost use Rattle.std.specs.Prelude.{◌≡◌, ◌≤◌, ◌<◌, ◌+◌, ◌↔◌, ℕ, List, IfErr, IfOk, IfSome, OnOk, OnErr, All, IsSome, IsTrue, Some, length};
+ghost use Rattle.std.specs.Prelude.{◌≡◌, ◌≤◌, ◌<◌, ◌+◌, ◌↔◌, ℕ, List, All, length, max, Some};
+ghost use Rattle.std.specs.Prelude.{IfErr, IfOk, IfSome, IsSome, IsTrue, OnErr, OnOk};
 ghost use Rattle.std.specs.Borrow.{sem};
-ghost use Rattle.std.specs.Option.{option_copied_mut};
+ghost use Rattle.std.specs.Option.{option_copied, option_copied_mut};
 ghost use Rattle.fs_types.specs.Fragments.{IsWellFormedPush};
 ghost use Rattle.fs_types.specs.Pieces.{Piece};
 ghost use Rattle.piece_table.specs.HeldSpans.{AreGone, PutsAll, pushed};
 ghost use Rattle.span_list.specs.Spans.{AreSpans, IsSpan, next_fragment};
 ghost use Rattle.client_map.specs.Calls.{Changes, HasHolds, IsAsBefore};
 ghost use Rattle.client_map.specs.HoldLends.{lends_hold_of};
-ghost use Rattle.client_map.specs.Kept.{is_text, nothing_pending, pending_in};
+ghost use Rattle.client_map.specs.Kept.{is_text, nothing_pending, pending_end, pending_in};
 ghost use Rattle.std.specs.Map.{lookup};
 ghost use Rattle.client_map.specs.Writes.{MayAdd, parts_of, write_of};
 
@@ -62,6 +63,16 @@ impl<H: Hold + Drop, S: Spans + Drop> ClientMap<H, S> {
         }
     }
 
+    /// Where the last byte that is pending on a path ends, and 0 where nothing is.
+    pub fn end(&self, p: &Path) -> u64
+        ensures { result ≡ pending_end (pending_in self.now p.now).fragments }
+    {
+        match self.paths.get(p.as_bytes()) {
+            Some(path) => path.end(),
+            None => 0,
+        }
+    }
+
     /// The first whole fragment pending on a path that ends after a place, if any.
     pub fn next(&self, p: &Path, at: u64) -> Option<Frag>
         ensures next { result ≡ next_fragment at (pending_in self.now p.now).fragments }
@@ -107,6 +118,8 @@ impl<H: Hold + Drop, S: Spans + Drop> ClientMap<H, S> {
             (pending_in self.old p.now) (pending_in self.new p.now)) }
         ensures own { OnOk result (All
             (λ h. (pending_in self.new p.now).hold_of (H.piece h) ≡ Some h) holds.items) }
+        ensures end { OnOk result (pending_end (pending_in self.new p.now).fragments
+            ≡ max (pending_end (pending_in self.old p.now).fragments) (off + len)) }
         ensures dead { IfOk result (λ dead. AreGone H.piece
             (pending_in self.old p.now) (pending_in self.new p.now) dead.items) }
         ensures given_back { IfErr result (λ e. e.1 ≡ holds) }
@@ -122,6 +135,16 @@ impl<H: Hold + Drop, S: Spans + Drop> ClientMap<H, S> {
             unreachable!()
         };
         kept.add(alloc, self.chunk, off, len, holds)
+    }
+
+    /// The hold of a piece that is pending on a path, to read.
+    pub fn hold(&self, p: &Path, id: PieceId) -> Option<&H>
+        ensures hold { option_copied result ≡ (pending_in self.now p.now).hold_of id }
+    {
+        match self.paths.get(p.as_bytes()) {
+            Some(path) => path.hold(id),
+            None => None,
+        }
     }
 
     /// The hold of a piece that is pending on a path, to change. What is left behind the reference

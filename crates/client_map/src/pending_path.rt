@@ -1,14 +1,15 @@
 //! What is pending on one path.
 
-ghost use Rattle.std.specs.Prelude.{◌≡◌, ◌<◌, IfErr, IfOk, IfSome, OnOk, OnErr, All, IsTrue, Some, ◌↔◌, length};
+ghost use Rattle.std.specs.Prelude.{◌≡◌, ◌<◌, ◌+◌, ◌↔◌, All, length, max, Some};
+ghost use Rattle.std.specs.Prelude.{IfErr, IfOk, IfSome, IsTrue, OnErr, OnOk};
 ghost use Rattle.std.specs.Borrow.{sem};
-ghost use Rattle.std.specs.Option.{option_copied_mut};
+ghost use Rattle.std.specs.Option.{option_copied, option_copied_mut};
 ghost use Rattle.fs_types.specs.Fragments.{IsWellFormedPush};
 ghost use Rattle.fs_types.specs.Pieces.{Piece};
 ghost use Rattle.piece_table.specs.HeldSpans.{AreGone, AreHeld, PutsAll, held, pushed};
 ghost use Rattle.span_list.specs.Spans.{AreSpans, IsSpan, next_fragment};
 ghost use Rattle.client_map.specs.HoldLends.{lends_on_path};
-ghost use Rattle.client_map.specs.Kept.{nothing_pending};
+ghost use Rattle.client_map.specs.Kept.{nothing_pending, pending_end};
 ghost use Rattle.client_map.specs.Writes.{MayAdd, parts_of, write_of};
 
 use crate::parts::parts;
@@ -23,18 +24,20 @@ use std::marker::Model;
 #[derive(Drop)]
 pub struct PendingPath<H: Hold, S: Spans> {
     held: HeldSpans<H, S>,
+    // Where the last byte of `held` ends.
+    end: u64,
     room: PushRoom<H>,
 }
 
 impl<H: Hold, S: Spans> Model for PendingPath<H, S> {
     ghost use Rattle.piece_table.specs.HeldSpans.{Kept};
-    ghost use Rattle.client_map.specs.Kept.{HasRoomForAll};
+    ghost use Rattle.client_map.specs.Kept.{IsPathKept};
 
     ghost Value = { Kept H };
 
     ghost view = { λ x. x.held };
 
-    ghost invariant = { λ x. HasRoomForAll x.held x.room };
+    ghost invariant = { λ x. IsPathKept x.held x.end x.room };
 }
 
 impl<H: Hold + Drop, S: Spans> PendingPath<H, S> {
@@ -44,6 +47,7 @@ impl<H: Hold + Drop, S: Spans> PendingPath<H, S> {
     {
         PendingPath {
             held: HeldSpans::new(alloc),
+            end: 0,
             room: PushRoom::new(alloc),
         }
     }
@@ -55,6 +59,13 @@ impl<H: Hold + Drop, S: Spans> PendingPath<H, S> {
         !self.held.is_empty()
     }
 
+    /// Where the last byte that is pending ends, and 0 where nothing is.
+    pub fn end(&self) -> u64
+        ensures { result ≡ pending_end self.now.fragments }
+    {
+        self.end
+    }
+
     /// The first whole fragment that ends after a place, if any.
     pub fn next(&self, at: u64) -> Option<Frag>
         ensures next { result ≡ next_fragment at self.now.fragments }
@@ -62,6 +73,13 @@ impl<H: Hold + Drop, S: Spans> PendingPath<H, S> {
         ensures spans { AreSpans self.now.fragments }
     {
         self.held.next(at)
+    }
+
+    /// The hold of a piece that is pending, to read.
+    pub fn hold(&self, id: PieceId) -> Option<&H>
+        ensures hold { option_copied result ≡ (held self.now).hold_of id }
+    {
+        self.held.get(id)
     }
 
     /// The hold of a piece that is pending, to change.
@@ -95,6 +113,8 @@ impl<H: Hold + Drop, S: Spans> PendingPath<H, S> {
             (held self.old) (held self.new)) }
         ensures own { OnOk result
             (All (λ h. (held self.new).hold_of (H.piece h) ≡ Some h) holds.items) }
+        ensures end { OnOk result (pending_end (held self.new).fragments
+            ≡ max (pending_end (held self.old).fragments) (off + len)) }
         ensures dead { IfOk result (λ dead. AreGone H.piece (held self.old) (held self.new)
             dead.items) }
         ensures given_back { IfErr result (λ e. e.1 ≡ holds) }
@@ -111,6 +131,7 @@ impl<H: Hold + Drop, S: Spans> PendingPath<H, S> {
         let mut dead = Vec::new(alloc);
         match self.held.put_push(Push { frags, holds }, &mut dead) {
             Ok(()) => {
+                self.end = self.end.max(off + len);
                 self.room.most += 2 * count;
                 Ok(dead)
             }
@@ -132,6 +153,7 @@ impl<H: Hold + Drop, S: Spans> PendingPath<H, S> {
             ≡ (held self.old).hold_of q }
         ensures emptied { held self.new ≡ nothing_pending }
     {
+        self.end = 0;
         let (frags, holds) = self.room.take();
         self.held.take_all(frags, holds)
     }

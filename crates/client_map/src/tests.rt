@@ -152,8 +152,14 @@ fn pieces(alloc: Global, holds: &[MemHold]) -> Result<Vec<(u32, u32)>, Fail> {
     Ok(all)
 }
 
-// Line 4 wrote 20 bytes at place 100: two parts of 8 bytes and one of 4. What line 6 writes over
-// them gives these holds, and leaves these fragments.
+// How many bytes the piece of a hold has, where the piece is pending on a path.
+fn held_bytes(map: &Map, path: &Path, id: PieceId) -> Option<u32> {
+    let hold = map.hold(path, id)?;
+    Some(hold.bytes())
+}
+
+// Line 4 wrote 20 bytes at place 100: two parts of 8 bytes and one of 4. Once line 6 wrote over
+// them, all end here. It gives these holds, and leaves these fragments.
 #[test]
 fn a_later_write_stands_over_an_earlier_one(rt: HostRuntime) -> Result<(), Fail> {
     let alloc = rt.alloc();
@@ -161,11 +167,12 @@ fn a_later_write_stands_over_an_earlier_one(rt: HostRuntime) -> Result<(), Fail>
     let first = frag(100, 8, 4, 0, 0);
     let second = frag(108, 8, 4, 1, 0);
     let third = frag(116, 4, 4, 2, 0);
-    for (name, off, len, dead, wanted) in [
+    for (name, off, len, end, dead, wanted) in [
         (
             "over a whole part",
             108,
             8,
+            120,
             [(4, 1)].as_slice(),
             [first, frag(108, 8, 6, 0, 0), third].as_slice(),
         ),
@@ -173,6 +180,7 @@ fn a_later_write_stands_over_an_earlier_one(rt: HostRuntime) -> Result<(), Fail>
             "within a part",
             102,
             3,
+            120,
             &[],
             &[
                 frag(100, 2, 4, 0, 0),
@@ -186,6 +194,7 @@ fn a_later_write_stands_over_an_earlier_one(rt: HostRuntime) -> Result<(), Fail>
             "over two parts and a byte of the third",
             100,
             17,
+            120,
             &[(4, 0), (4, 1)],
             &[
                 frag(100, 8, 6, 0, 0),
@@ -198,6 +207,7 @@ fn a_later_write_stands_over_an_earlier_one(rt: HostRuntime) -> Result<(), Fail>
             "over all",
             96,
             24,
+            120,
             &[(4, 0), (4, 1), (4, 2)],
             &[
                 frag(96, 8, 6, 0, 0),
@@ -209,6 +219,7 @@ fn a_later_write_stands_over_an_earlier_one(rt: HostRuntime) -> Result<(), Fail>
             "over a last and a first byte",
             107,
             2,
+            120,
             &[],
             &[
                 frag(100, 7, 4, 0, 0),
@@ -221,6 +232,7 @@ fn a_later_write_stands_over_an_earlier_one(rt: HostRuntime) -> Result<(), Fail>
             "behind",
             120,
             1,
+            121,
             &[],
             &[first, second, third, frag(120, 1, 6, 0, 0)],
         ),
@@ -231,6 +243,7 @@ fn a_later_write_stands_over_an_earlier_one(rt: HostRuntime) -> Result<(), Fail>
         let found = add(alloc, &mut map, &path, 6, off, len, None)?;
         assert_eq!(rt; pieces(alloc, &found)?.as_slice(), dead, "{name}");
         assert_eq!(rt; pending(alloc, &map, &path)?.as_slice(), wanted, "{name}");
+        assert_eq!(rt; map.end(&path), end, "{name}");
     }
     Ok(())
 }
@@ -245,8 +258,17 @@ fn a_path_keeps_what_is_pending_while_another_is_taken(rt: HostRuntime) -> Resul
     add(alloc, &mut map, &b, 5, 4, 3, None)?;
     let dead = add(alloc, &mut map, &a, 6, 8, 8, None)?;
     assert_eq!(rt; pieces(alloc, &dead)?.as_slice(), [(4, 1)].as_slice());
-    for (path, has) in [(&a, true), (&b, true)] {
-        assert_eq!(rt; map.has(path), has);
+    for (path, end) in [(&a, 16), (&b, 7)] {
+        assert!(rt; map.has(path));
+        assert_eq!(rt; map.end(path), end);
+    }
+    for (path, id, bytes) in [
+        (&a, piece(4, 0), Some(8)),
+        (&a, piece(4, 1), None),
+        (&a, piece(5, 0), None),
+        (&b, piece(5, 0), Some(3)),
+    ] {
+        assert_eq!(rt; held_bytes(&map, path, id), bytes);
     }
     let push = take(&mut map, &a);
     let wanted = [frag(0, 8, 4, 0, 0), frag(8, 8, 6, 0, 0)];
@@ -255,8 +277,11 @@ fn a_path_keeps_what_is_pending_while_another_is_taken(rt: HostRuntime) -> Resul
     assert_eq!(rt; pieces(alloc, &push.holds)?.as_slice(), held.as_slice());
     assert!(rt; !map.has(&a));
     assert_eq!(rt; map.next(&a, 0), None);
+    assert_eq!(rt; map.end(&a), 0);
+    assert_eq!(rt; held_bytes(&map, &a, piece(4, 0)), None);
     assert!(rt; map.hold_of(&a, piece(4, 0)).is_none());
     assert!(rt; map.has(&b));
+    assert_eq!(rt; map.end(&b), 7);
     assert_eq!(rt; map.next(&b, 0), Some(frag(4, 3, 5, 0, 0)));
     Ok(())
 }

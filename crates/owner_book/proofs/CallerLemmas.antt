@@ -1,4 +1,4 @@
--- What a caller cites of books: the crates above import from here alone.
+-- What a caller cites of books: whatever the proofs of the crates above need is here.
 use Rattle.fs_types.proofs.Common.{◌≡◌, ℕ, ◌≤◌, Bool, List}
 use Rattle.fs_types.proofs.Common.{refl, sym, subst, cond_both, arith, none-some, Result, Ok, Err, OnOk}
 use Rattle.std.specs.Result.{OnErr}
@@ -13,6 +13,17 @@ use Rattle.owner_book.specs.Names.{same_file}
 use Rattle.owner_book.proofs.Paths.{at-changed}
 -- a path whose file was lent a hold has its holds where the one that came back is ready, and of the same piece and bytes
 pub use Rattle.owner_book.proofs.HeldAnew.{holds-lent}
+-- a file is the same by its gfid and path; what a book has of the path that changed; that it has of it what it has, also where the
+-- book is as it was; and that a change to what was there is none
+pub use Rattle.owner_book.proofs.Paths.{same_file-itself, at-changed, changes-here, changes-itself, unchanged}
+-- the parts of a range are in order, have the marks that stand there, and are the same where the end is cut off at the greatest number
+pub use Rattle.owner_book.proofs.Parts.{parts-spans, parts-in_range, parts-marks}
+pub use Rattle.owner_book.proofs.Named.{parts-found}
+-- the pieces that fragments name are there once, those that a look-up finds have their holds, and they are those of its range, as are
+-- those of its pins with the bare ones
+pub use Rattle.owner_book.proofs.Named.{one-of_named, pieces-apart, pieces-held, pieces-in_range, pins-in_range}
+-- of holds, one of each such piece, the one found is the piece's own, and no two are of one piece; and what one hold more finds
+pub use Rattle.owner_book.proofs.FoundHolds.{find-held, once-held, find-new, find-more}
 
 module _ {H : Type 0} (is_ready : H → Bool) (piece : H → Piece) (byte_count : H → ℕ) where
   -- no fragments have their holds

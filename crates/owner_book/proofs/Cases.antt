@@ -1,6 +1,6 @@
 -- The definitions at single values.
 use Rattle.fs_types.proofs.Common.{◌≡◌, ℕ, true, false, List, [], ◌∷◌, All-cons, All-nil, Option, Some, None, if◌then◌else◌, refl}
-use Rattle.fs_types.proofs.Common.{same_Some, subst, take, arith, true≢false}
+use Rattle.fs_types.proofs.Common.{filter, none-some, take, arith, true≢false}
 use Rattle.std.proofs.Common.{lit<}
 use Rattle.fs_types.specs.Fragments.{piece_eq}
 use Rattle.fs_types.specs.Marks.{Mark}
@@ -11,7 +11,8 @@ use Rattle.fs_types.specs.declared.mem_hold.MemHold.{MemHold}
 use Rattle.piece_table.specs.HeldSpans.{AreGone, Held, pushed}
 use Rattle.owner_book.specs.Commits.{laid_over, size_after}
 use Rattle.owner_book.specs.Journals.{Entry, creation, addition, truncation, removal, deed_after, file_after}
-use Rattle.owner_book.specs.Lookups.{IsLike, Pins, parts_in, pieces_named}
+use Rattle.owner_book.specs.LookupLaws.{stands_in}
+use Rattle.owner_book.specs.Lookups.{IsPinOf, Pins, parts_in, pieces_named}
 use Rattle.owner_book.specs.Truncations.{beside, cut_off}
 
 abbrev piece : ℕ → Piece
@@ -35,6 +36,12 @@ no_parts_in_a_gap = refl
 
 no_parts_of_no_place : parts_in 2 2 three ≡ []
 no_parts_of_no_place = refl
+
+those_in_a_range : filter (stands_in 2 8) three ≡ frag 0 4 3 0 ∷ frag 6 3 4 0 ∷ []
+those_in_a_range = refl
+
+none_in_a_gap : filter (stands_in 4 6) three ≡ []
+none_in_a_gap = refl
 
 each_piece_once : pieces_named three ≡ piece 3 ∷ piece 4 ∷ []
 each_piece_once = refl
@@ -124,18 +131,20 @@ kept = record {
   hold_of = λ q. if piece_eq (piece 3) q then Some (hold_with 3 (Some 1)) else if piece_eq (piece 4) q then Some (hold_with 4 (Some 0)) else None;
 }
 
-like_the_first : (h : MemHold) → Some (hold_with 3 (Some 1)) ≡ Some h → IsLike mem h (hold_with 3 (Some 0))
-like_the_first h same =
-    subst (λ x. IsLike mem x (hold_with 3 (Some 0))) (same_Some (hold_with 3 (Some 1)) h same) (record { ready = refl; piece = refl; bytes = refl; place = refl })
+like_the_first : IsPinOf mem kept (hold_with 3 (Some 0))
+like_the_first = (hold_with 3 (Some 1), refl, record { ready = refl; piece = refl; bytes = refl; place = refl })
 
 -- the piece with room has a pin, and the one without is bare
 a_pin_and_a_bare_piece : Pins mem kept (piece 3 ∷ piece 4 ∷ []) (hold_with 3 (Some 0) ∷ []) (piece 4 ∷ [])
 a_pin_and_a_bare_piece = record {
   without = refl;
   pinned = refl;
-  each = All-cons (λ pin. (h : MemHold) → kept.hold_of pin.piece ≡ Some h → IsLike mem h pin) (hold_with 3 (Some 0)) [] like_the_first
-      (All-nil (λ pin. (h : MemHold) → kept.hold_of pin.piece ≡ Some h → IsLike mem h pin));
+  each = All-cons (IsPinOf mem kept) (hold_with 3 (Some 0)) [] like_the_first (All-nil (IsPinOf mem kept));
 }
+
+-- a piece that has no hold has no pin
+no_pin_without_a_hold : Pins mem kept (piece 7 ∷ []) (hold_with 7 None ∷ []) [] → ⊥
+no_pin_without_a_hold pins = let pin = pins.each 0 (hold_with 7 None) (lit< tt) in none-some pin.0 pin.1
 
 -- ---- cuts
 

@@ -6,8 +6,8 @@ pub mod SameState
 pub mod Parts
 pub mod Pins
 pub mod Pinned
-pub mod Asked
 pub mod Named
+pub mod FoundHolds
 pub mod Lent
 pub mod HeldAnew
 pub mod CallerLemmas

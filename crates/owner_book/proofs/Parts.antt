@@ -1,146 +1,141 @@
 -- The parts of fragments in a range, one after the other.
-use Rattle.fs_types.proofs.Common.{◌≡◌, ℕ, ◌+◌, ◌-◌, ◌<◌, ◌≤◌, max, min, List, [], ◌∷◌, ◌++◌, All, All-head, All-tail, All-weaker, Some, None}
+use Rattle.fs_types.proofs.Common.{◌≡◌, ℕ, ◌<◌, ◌≤◌, max, min, List, [], ◌∷◌, ◌++◌, All, All-head, All-tail, All-weaker, Option, Some, None}
 use Rattle.fs_types.proofs.Common.{arith, nat_tests, refl, ap, sym, ◌∙◌, cond_both, subst, same_Some, ltb-true, ltb-false, cases_lt, inl, inr}
+use Rattle.fs_types.proofs.Common.{append-nil, get_or}
+use Rattle.std.specs.Prelude.{MatchOption}
 use Rattle.std.specs.List.{flat_map}
+use Rattle.std.specs.Option.{option_to_list}
+use Rattle.std.proofs.lemmas.Grind.{flat_map-append}
 use Rattle.fs_types.specs.Fragments.{end_of}
 use Rattle.fs_types.specs.Pieces.{Fragment}
 use Rattle.span_list.specs.Spans.{AreSpans, IsSpan, cut_fragments, ends_after, next_fragment, rest_before, rest_from}
-use Rattle.span_list.proofs.CallerLemmas.{All-flat_map, All-rest_before, AreSpans-cut, AllPairs-head, AllPairs-tail, IsAhead, IsNext-found}
-use Rattle.span_list.proofs.CallerLemmas.{at_rest_before, at_rest_from, before, from_on}
-use Rattle.span_list.proofs.CallerLemmas.{cut_ends, ended-none, rests_before-begun, rests_from-begun, rests_from-ended}
-use Rattle.span_list.proofs.CallerLemmas.{mark_at-cut}
-use Rattle.span_list.proofs.Marks.{mark_at-from}
+use Rattle.span_list.proofs.CallerLemmas.{All-flat_map, All-rest_before, All-rest_from, AreSpans-cut, AreSpans-from, AllPairs-head, AllPairs-tail}
+use Rattle.span_list.proofs.CallerLemmas.{IsAhead, IsNext-found, IsSpan-found, at_rest_before, at_rest_from, before, cut_ends, ended-none}
+use Rattle.span_list.proofs.CallerLemmas.{from_on, mark_at-cut, mark_at-from, rests_from-begun, rests_from-ended}
+use Rattle.owner_book.specs.LookupLaws.{PartsAreInRange}
 use Rattle.owner_book.specs.Lookups.{NameRange, parts_in}
 
--- what begins from a place on, or ends by it, does so once it is cut
-cut-begun : (a to : ℕ) (fs : List Fragment) → All (λ f. a ≤ f.at) fs → All (λ f. a ≤ f.at) (cut_fragments to fs)
-cut-begun a to fs begins = All-flat_map (λ f. a ≤ f.at) (rest_before to) fs
-    (λ k d within. All-rest_before (λ f. a ≤ f.at) to _ (λ begun. begins k d within))
+-- ---- what of one fragment stands in a range
 
-cut-ended : (a to : ℕ) (fs : List Fragment) → All (λ f. end_of f ≤ a) fs → All (λ f. end_of f ≤ a) (cut_fragments to fs)
-cut-ended a to fs ends = All-flat_map (λ f. end_of f ≤ a) (rest_before to) fs
-    (λ k d within. All-rest_before (λ f. end_of f ≤ a) to _ (λ begun. let end = ends k d within in omega (arith, end)))
+abbrev pub part_in : ℕ → ℕ → Fragment → List Fragment
+part_in from to f = flat_map (rest_from from) (rest_before to f)
 
--- none of the fragments ends in the range or behind it
+-- the part, where something stands there
+abbrev pub part_of : ℕ → ℕ → Fragment → Fragment
+part_of from to f = from_on from (before to f)
+
+-- something does where the range and the fragment have a place in common
+pub at_part : (P : List Fragment → Type 0) (from to : ℕ) (f : Fragment) → 0 < f.len → (min to (end_of f) ≤ max from f.at → P [])
+    → (max from f.at < min to (end_of f) → P (part_of from to f ∷ [])) → P (part_in from to f)
+at_part P from to f some none one =
+    at_rest_before (λ xs. P (flat_map (rest_from from) xs)) to f (λ past. none (omega (arith, past)))
+    (λ begun.
+    at_rest_from (λ xs. P (xs ++ [])) from (before to f) (λ ended. none (omega (arith, ended, begun)))
+    (λ ends. one (omega (arith, ends, begun, some))))
+
+part-ended : (from to : ℕ) (f : Fragment) → end_of f ≤ from → part_in from to f ≡ []
+part-ended from to f ended =
+    at_rest_before (λ xs. flat_map (rest_from from) xs ≡ []) to f (λ _. refl)
+    (λ begun. at_rest_from (λ xs. xs ++ [] ≡ []) from (before to f) (λ _. refl) (λ ends. absurd (omega (arith, ends, ended))))
+
+-- ---- what of all does
+
+pub parts-cons : (from to : ℕ) (f : Fragment) (fs : List Fragment) → parts_in from to (f ∷ fs) ≡ part_in from to f ++ parts_in from to fs
+parts-cons from to f fs = flat_map-append (rest_from from) (rest_before to f) (cut_fragments to fs)
+
+-- one that ends by the begin of the range has no part
+parts-skip : (from to : ℕ) (f : Fragment) (fs : List Fragment) → end_of f ≤ from → parts_in from to (f ∷ fs) ≡ parts_in from to fs
+parts-skip from to f fs ended = parts-cons from to f fs ∙ ap (λ xs. xs ++ parts_in from to fs) (part-ended from to f ended)
+
+-- where all do there are none, and where the range has no place
 parts-ended : (from to : ℕ) (fs : List Fragment) → All (λ f. end_of f ≤ from) fs → parts_in from to fs ≡ []
-parts-ended from to fs ends = rests_from-ended from (cut_fragments to fs) (cut-ended from to fs ends)
+parts-ended from to [] ended = refl
+parts-ended from to (f ∷ fs) ended =
+    parts-skip from to f fs (All-head (λ f. end_of f ≤ from) f fs ended)
+    ∙ parts-ended from to fs (All-tail (λ f. end_of f ≤ from) f fs ended)
 
-pub parts-none : (from to : ℕ) (fs : List Fragment) → next_fragment from fs ≡ None → parts_in from to fs ≡ []
-parts-none from to fs none = parts-ended from to fs (ended-none from fs none)
-
--- the range has no place
 parts-empty : (from to : ℕ) (fs : List Fragment) → to ≤ from → parts_in from to fs ≡ []
 parts-empty from to fs le = rests_from-ended from (cut_fragments to fs)
     (All-weaker (λ f. end_of f ≤ to) (λ f. end_of f ≤ from) (λ f end. omega (arith, end, le)) (cut_fragments to fs) (cut_ends to fs))
 
--- all fragments begin from the begin of the range on
+-- where all begin from the begin of the range on, the begin cuts off nothing
 parts-begun : (from to : ℕ) (fs : List Fragment) → AreSpans fs → All (λ f. from ≤ f.at) fs → parts_in from to fs ≡ cut_fragments to fs
 parts-begun from to fs spans begins =
-    rests_from-begun from (cut_fragments to fs) (AreSpans-cut to fs spans).each (cut-begun from to fs begins)
+    rests_from-begun from (cut_fragments to fs) (AreSpans-cut to fs spans).each (All-flat_map (λ f. from ≤ f.at) (rest_before to) fs
+    (All-weaker (λ f. from ≤ f.at) (λ f. All (λ g. from ≤ g.at) (rest_before to f))
+    (λ f begun. All-rest_before (λ g. from ≤ g.at) to f (λ _. begun)) fs begins))
 
--- a fragment of which nothing stands in the range
-parts-skip : (from to : ℕ) (f : Fragment) (fs : List Fragment) → min to (end_of f) ≤ from → parts_in from to (f ∷ fs) ≡ parts_in from to fs
-parts-skip from to f fs end =
-    at_rest_before (λ xs. flat_map (rest_from from) (xs ++ cut_fragments to fs) ≡ parts_in from to fs) to f (λ _. refl)
-    (λ begun.
-    let none : rest_from from (before to f) ≡ [] = grind (arith, nat_tests, end) in
-    ap (λ xs. xs ++ parts_in from to fs) none)
-
-module _ (f : Fragment) (fs : List Fragment) (spans : AreSpans (f ∷ fs)) where
-  head_span : IsSpan f
-  head_span = All-head IsSpan f fs spans.each
-
-  tail_spans : AreSpans fs
-  tail_spans = record { each = All-tail IsSpan f fs spans.each; in_order = AllPairs-tail IsAhead f fs spans.in_order }
-
-  ahead : All (IsAhead f) fs
-  ahead = AllPairs-head IsAhead f fs spans.in_order
-
--- the first fragment with bytes from the begin of the range on begins past its end
-pub parts-past : (from to : ℕ) (fs : List Fragment) (g : Fragment) → AreSpans fs → next_fragment from fs ≡ Some g → to ≤ g.at
-    → parts_in from to fs ≡ []
-parts-past from to [] g spans found past = refl
-parts-past from to (f ∷ fs) g spans found past =
-    cond_both (ends_after from f) (Some f) (next_fragment from fs) (λ o. o ≡ Some g → parts_in from to (f ∷ fs) ≡ [])
-    (λ ends same.
-    let here : to ≤ f.at = omega (arith, past, ap (λ h. h.at) (same_Some f g same)) in
-    let none : rest_before to f ≡ [] = grind (arith, nat_tests, here) in
-    let later : cut_fragments to fs ≡ [] = rests_before-begun to fs
-    (All-weaker (IsAhead f) (λ h. to ≤ h.at) (λ h begins. omega (arith, begins, here)) fs (ahead f fs spans)) in
-    (λ i. flat_map (rest_from from) (none i ++ later i)))
-    (λ ended rest.
-    let end = ltb-false from (end_of f) ended in
-    parts-skip from to f fs (omega (arith, end)) ∙ parts-past from to fs g (tail_spans f fs spans) rest past)
-    found
-
--- what of a fragment stands in a range
-abbrev pub part_of : ℕ → ℕ → Fragment → Fragment
-part_of from to g = record {
-  at = max g.at from;
-  len = min to (end_of g) - max g.at from;
-  piece = g.piece;
-  from = g.from + (max g.at from - g.at);
-}
-
-same_part : (from to : ℕ) (f : Fragment) → f.at < to → from_on from (before to f) ≡ part_of from to f
-same_part from to f begun =
-    let at : max from f.at ≡ max f.at from = omega arith in
-    let len : end_of (before to f) - max from f.at ≡ min to (end_of f) - max f.at from = omega (arith, begun) in
-    let place : f.from + (max from f.at - f.at) ≡ f.from + (max f.at from - f.at) = omega arith in
-    λ i. record { at = at i; len = len i; piece = f.piece; from = place i }
-
--- a fragment that ends behind the begin of the range, and begins before its end
-parts-head : (from to : ℕ) (f : Fragment) (fs : List Fragment) → from < end_of f → max f.at from < to
-    → parts_in from to (f ∷ fs) ≡ part_of from to f ∷ parts_in from to fs
-parts-head from to f fs ends inside =
-    at_rest_before (λ xs. flat_map (rest_from from) (xs ++ cut_fragments to fs) ≡ part_of from to f ∷ parts_in from to fs) to f
-    (λ past. absurd (omega (arith, past, inside)))
-    (λ begun.
-    at_rest_from (λ xs. xs ++ parts_in from to fs ≡ part_of from to f ∷ parts_in from to fs) from (before to f)
-    (λ ended. absurd (omega (arith, ended, begun, ends, inside)))
-    (λ _. ap (λ p. p ∷ parts_in from to fs) (same_part from to f begun)))
-
--- and otherwise it has the first part, and the next ones are from its end on
-parts-first : (from to : ℕ) (fs : List Fragment) (g : Fragment) → AreSpans fs → next_fragment from fs ≡ Some g → max g.at from < to
-    → parts_in from to fs ≡ part_of from to g ∷ parts_in (min to (end_of g)) to fs
-parts-first from to [] g spans found inside = absurd cc
-parts-first from to (f ∷ fs) g spans found inside =
-    cond_both (ends_after from f) (Some f) (next_fragment from fs)
-    (λ o. o ≡ Some g → parts_in from to (f ∷ fs) ≡ part_of from to g ∷ parts_in (min to (end_of g)) to (f ∷ fs))
-    (λ ends same.
-    let is : f ≡ g = same_Some f g same in
-    let end : ℕ = min to (end_of f) in
-    let behind = ltb-true from (end_of f) ends in
-    let begin : f.at ≡ g.at = ap (λ h. h.at) is in
-    let later : All (λ h. from ≤ h.at) fs = All-weaker (IsAhead f) (λ h. from ≤ h.at) (λ h begins. omega (arith, begins, behind)) fs
-    (ahead f fs spans) in
-    let on : All (λ h. end ≤ h.at) fs = All-weaker (IsAhead f) (λ h. end ≤ h.at) (λ h begins. omega (arith, begins)) fs (ahead f fs spans) in
-    subst (λ h. parts_in from to (f ∷ fs) ≡ part_of from to h ∷ parts_in (min to (end_of h)) to (f ∷ fs)) is
-    (parts-head from to f fs behind (omega (arith, inside, begin))
-    ∙ ap (λ xs. part_of from to f ∷ xs) (parts-begun from to fs (tail_spans f fs spans) later
-    ∙ sym (parts-begun end to fs (tail_spans f fs spans) on) ∙ sym (parts-skip end to f fs (omega arith)))))
-    (λ ended rest.
-    let end = ltb-false from (end_of f) ended in
-    let past = (IsNext-found from fs g rest).ends_after in
-    parts-skip from to f fs (omega (arith, end)) ∙ parts-first from to fs g (tail_spans f fs spans) rest inside
-    ∙ ap (λ xs. part_of from to g ∷ xs) (sym (parts-skip (min to (end_of g)) to f fs (omega (arith, end, past)))))
-    found
-
-pub parts-next : (from to : ℕ) (fs : List Fragment) (g : Fragment) → AreSpans fs → next_fragment from fs ≡ Some g → max g.at from < to
-    → parts_in from to fs ≡ part_of from to g ∷ parts_in (end_of (part_of from to g)) to fs
-parts-next from to fs g spans found inside =
-    let past = (IsNext-found from fs g found).ends_after in
-    let end : min to (end_of g) ≡ end_of (part_of from to g) = omega (arith, inside, past) in
-    parts-first from to fs g spans found inside ∙ ap (λ (e : ℕ). part_of from to g ∷ parts_in e to fs) end
-
--- where the first one begins from the end of the range on, or the range has no place, there are no parts
-pub parts-outside : (from to : ℕ) (fs : List Fragment) (g : Fragment) → AreSpans fs → next_fragment from fs ≡ Some g → to ≤ max g.at from
-    → parts_in from to fs ≡ []
-parts-outside from to fs g spans found out = elim (cases_lt from to) [
-  | inl before ↦ parts-past from to fs g spans found (omega (arith, before, out))
-  | inr empty ↦ parts-empty from to fs (omega (arith, empty))
+-- an end behind that of the range leaves out nothing
+parts-capped : (from to : ℕ) (fs : List Fragment) → parts_in from to fs ≡ parts_in (min to from) to fs
+parts-capped from to fs = elim (cases_lt from to) [
+  | inl before ↦ let same : from ≡ min to from = omega (arith, before) in ap (λ (a : ℕ). parts_in a to fs) same
+  | inr past ↦ parts-empty from to fs (omega (arith, past)) ∙ sym (parts-empty (min to from) to fs (omega (arith, past)))
 ]
 
--- the parts have the marks of the range
+-- what of the first fragment that ends in the range or behind it stands there comes first, and then the parts from its end on
+parts-next : (from to : ℕ) (fs : List Fragment) (g : Fragment) → AreSpans fs → next_fragment from fs ≡ Some g
+    → parts_in from to fs ≡ part_in from to g ++ parts_in (end_of g) to fs
+parts-next from to [] g spans found = absurd cc
+parts-next from to (f ∷ fs) g spans found =
+    let rest : AreSpans fs = record { each = All-tail IsSpan f fs spans.each; in_order = AllPairs-tail IsAhead f fs spans.in_order } in
+    let ahead : All (IsAhead f) fs = AllPairs-head IsAhead f fs spans.in_order in
+    cond_both (ends_after from f) (Some f) (next_fragment from fs)
+    (λ o. o ≡ Some g → parts_in from to (f ∷ fs) ≡ part_in from to g ++ parts_in (end_of g) to (f ∷ fs))
+    (λ ends same.
+    let behind = ltb-true from (end_of f) ends in
+    let on : All (λ h. from ≤ h.at) fs = All-weaker (IsAhead f) (λ h. from ≤ h.at) (λ h begins. omega (arith, begins, behind)) fs ahead in
+    subst (λ h. parts_in from to (f ∷ fs) ≡ part_in from to h ++ parts_in (end_of h) to (f ∷ fs)) (same_Some f g same)
+    (parts-cons from to f fs ∙ ap (λ xs. part_in from to f ++ xs)
+    (parts-begun from to fs rest on ∙ sym (parts-begun (end_of f) to fs rest ahead) ∙ sym (parts-skip (end_of f) to f fs (omega arith)))))
+    (λ ended later.
+    let end = ltb-false from (end_of f) ended in
+    let past = (IsNext-found from fs g later).ends_after in
+    parts-skip from to f fs (omega (arith, end)) ∙ parts-next from to fs g rest later
+    ∙ ap (λ xs. part_in from to g ++ xs) (sym (parts-skip (end_of g) to f fs (omega (arith, end, past)))))
+    found
+
+-- ---- the first part
+
+pub parts-none : (from to : ℕ) (fs : List Fragment) → next_fragment from fs ≡ None → parts_in from to fs ≡ []
+parts-none from to fs none = parts-ended from to fs (ended-none from fs none)
+
+-- what is left of a fragment once both ends of a range cut it is what of it stands there
+pub part-is : (from to : ℕ) (f b : Fragment) (part : Option Fragment) → b ∷ [] ≡ rest_before to f → option_to_list part ≡ rest_from from b
+    → option_to_list part ≡ part_in from to f
+part-is from to f b part cut is = is ∙ sym (append-nil (rest_from from b)) ∙ ap (flat_map (rest_from from)) cut
+
+module _ (from to : ℕ) (fs : List Fragment) (f : Fragment) (spans : AreSpans fs) (found : next_fragment from fs ≡ Some f) where
+  some : 0 < f.len
+  some = (IsSpan-found from fs f spans found).has_bytes
+
+  -- it is the first part, and where nothing of it stands there are no parts
+  pub parts-first : (part : Option Fragment) → option_to_list part ≡ part_in from to f
+      → MatchOption part (parts_in from to fs ≡ []) (λ r. parts_in from to fs ≡ r ∷ parts_in (end_of r) to fs)
+  parts-first None is =
+      let past = (IsNext-found from fs f found).ends_after in
+      let out : to ≤ end_of f = at_part (λ xs. [] ≡ xs → to ≤ end_of f) from to f some
+      (λ none _. omega (arith, none, past, some)) (λ _ no. absurd cc) is in
+      parts-next from to fs f spans found ∙ ap (λ xs. xs ++ parts_in (end_of f) to fs) (sym is) ∙ parts-empty (end_of f) to fs out
+  parts-first (Some r) is =
+      let end : min to (end_of f) ≡ end_of r = at_part (λ xs. r ∷ [] ≡ xs → min to (end_of f) ≡ end_of r) from to f some (λ _ no. absurd cc)
+      (λ one same. omega (arith, one, ap (λ (xs : List Fragment). end_of (get_or xs 0 r)) same)) is in
+      parts-next from to fs f spans found ∙ ap (λ xs. xs ++ parts_in (end_of f) to fs) (sym is)
+      ∙ ap (λ xs. r ∷ xs) (parts-capped (end_of f) to fs ∙ ap (λ (e : ℕ). parts_in e to fs) end)
+
+-- ---- where the parts stand, and their marks
+
+pub parts-spans : (from to : ℕ) (fs : List Fragment) → AreSpans fs → AreSpans (parts_in from to fs)
+parts-spans from to fs spans = AreSpans-from from (cut_fragments to fs) (AreSpans-cut to fs spans)
+
+pub parts-in_range : PartsAreInRange
+parts-in_range from to fs spans =
+    let Within : Fragment → Type 0 = λ f. (from ≤ f.at) × (end_of f ≤ to) in
+    record {
+      spans = parts-spans from to fs spans;
+      within = All-flat_map Within (rest_from from) (cut_fragments to fs)
+          (All-weaker (λ f. end_of f ≤ to) (λ f. All Within (rest_from from f))
+          (λ f end. All-rest_from Within from f (λ ends. (omega arith, omega (arith, end, ends)))) (cut_fragments to fs) (cut_ends to fs));
+    }
+
 pub parts-marks : (from to : ℕ) (fs : List Fragment) → NameRange from to fs (parts_in from to fs)
 parts-marks from to fs k = mark_at-from from (cut_fragments to fs) k ∙ grind (arith, nat_tests, mark_at-cut to fs k)

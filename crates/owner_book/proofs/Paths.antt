@@ -1,6 +1,6 @@
 -- Files under their keys: what a book has of each path once it keeps something else for one of them.
 use Rattle.fs_types.proofs.Common.{◌≡◌, ℕ, Bool, true, false, if◌then◌else◌, List, Option, Some, None, is_some, refl}
-use Rattle.fs_types.proofs.Common.{◌∙◌, sym, ap, subst, true≢false, Decides-eqb, bytes_eq-Decides, Result, Ok, Err, OnOk, IfOk}
+use Rattle.fs_types.proofs.Common.{◌∙◌, sym, ap, subst, true≢false, Decides-eqb, bytes_eq-Decides, Result, Ok, Err, OnOk, IfOk, cond_both}
 use Rattle.std.specs.Option.{OnSome}
 use Rattle.std.specs.Result.{OnErr}
 use Rattle.std.specs.Bool.{Decides}
@@ -22,6 +22,13 @@ Decides-name g h p q = Decides-and _ _ (Decides-eqb g h) (bytes_eq-Decides p q)
 
 pub same_file-itself : (g : ℕ) (p : List ℕ) → same_file g p g p ≡ true
 same_file-itself g p = (Decides-name g g p p).1 (refl, refl)
+
+-- what there is by another name where that is this one, and by this one where it isn't, is what there is by this one
+either-name : {X : Type 0} (at : ℕ → List ℕ → X) (g : ℕ) (q : List ℕ) (gfid : ℕ) (p : List ℕ)
+    → (if same_file g q gfid p then at gfid p else at g q) ≡ at g q
+either-name at g q gfid p =
+    cond_both (same_file g q gfid p) (at gfid p) (at g q) (λ x. x ≡ at g q)
+    (λ is. let names = (Decides-name g gfid q p).0 is in sym (ap (λ (h : ℕ). at h q) names.0 ∙ ap (at gfid) names.1)) (λ _. refl)
 
 -- a look-up by gfid and path is one by a key
 IsKeyTest-names : (g : ℕ) (p : List ℕ) → IsKeyTest same_key (names_key g p)
@@ -80,30 +87,18 @@ module _ {H : Type 0} where
   -- a change to what was there is none
   pub unchanged : (old new : Book H) (gfid : ℕ) (p : List ℕ) (x : BookPath H) → Changes old new gfid p x → x ≡ path_in old gfid p
       → IsAsBefore old new
-  unchanged old new gfid p x changes same g q = changes g q ∙ by (same_file g q gfid p) refl
-    where
-      by : (b : Bool) → same_file g q gfid p ≡ b → (if same_file g q gfid p then x else path_in old g q) ≡ path_in old g q
-      by false e = ap (λ b. if b then x else path_in old g q) e
-      by true e =
-          let names = (Decides-name g gfid q p).0 e in
-          ap (λ b. if b then x else path_in old g q) e ∙ same
-          ∙ sym (ap (λ (h : ℕ). path_in old h q) names.0 ∙ ap (λ (r : List ℕ). path_in old gfid r) names.1)
-
-  -- a book that is one has of each path the same
-  pub same-book : (old new : Book H) → new ≡ old → IsAsBefore old new
-  same-book old new same g q = ap (λ b. path_in b g q) same
+  unchanged old new gfid p x changes same g q =
+      changes g q ∙ ap (λ y. if same_file g q gfid p then y else path_in old g q) same ∙ either-name (path_in old) g q gfid p
 
   -- a book that is as it was has of one path what it has
-  pub changes-itself : (old new : Book H) (gfid : ℕ) (p : List ℕ) → new ≡ old → Changes old new gfid p (path_in new gfid p)
+  pub changes-itself : (old new : Book H) (gfid : ℕ) (p : List ℕ) → IsAsBefore old new → Changes old new gfid p (path_in new gfid p)
   changes-itself old new gfid p same g q =
-      by (same_file g q gfid p) refl ∙ ap (λ b. if same_file g q gfid p then path_in new gfid p else path_in b g q) same
-    where
-      by : (b : Bool) → same_file g q gfid p ≡ b → path_in new g q ≡ (if same_file g q gfid p then path_in new gfid p else path_in new g q)
-      by false e = sym (ap (λ b. if b then path_in new gfid p else path_in new g q) e)
-      by true e =
-          let names = (Decides-name g gfid q p).0 e in
-          ap (λ (h : ℕ). path_in new h q) names.0 ∙ ap (λ (r : List ℕ). path_in new gfid r) names.1
-          ∙ sym (ap (λ b. if b then path_in new gfid p else path_in new g q) e)
+      sym (either-name (path_in new) g q gfid p) ∙ ap (λ y. if same_file g q gfid p then path_in new gfid p else y) (same g q)
+
+  -- and one in which a path changed has of it what it has then
+  pub changes-here : (old new : Book H) (gfid : ℕ) (p : List ℕ) (x : BookPath H) → Changes old new gfid p x
+      → Changes old new gfid p (path_in new gfid p)
+  changes-here old new gfid p x changes = subst (Changes old new gfid p) (sym (at-changed old new gfid p x changes)) changes
 
 -- ---- what a call on a path that is kept makes of the book
 
@@ -169,7 +164,7 @@ module _ {H : Type 0} {old new : Book H} {gfid : ℕ} {p : List ℕ} {was now : 
 
   -- the book has of every other path what it had
   pub lent-here : Changes old new gfid p (path_in new gfid p)
-  lent-here = subst (Changes old new gfid p) (sym lent.now_is) lent.changes
+  lent-here = changes-here old new gfid p (path_of now) lent.changes
 
   -- where the path is as it was, so is the book
   pub lent-same : path_of now ≡ path_of was → IsAsBefore old new

@@ -1,94 +1,151 @@
--- Pieces that are asked for pins one after the other.
-use Rattle.fs_types.proofs.Common.{◌≡◌, Bool, true, false, ◌||◌, not, List, [], ◌∷◌, ◌++◌, map, filter, All, All-cons, All-nil, Some, refl}
-use Rattle.fs_types.proofs.Common.{sym, ap, ◌∙◌}
-use Rattle.fs_types.proofs.Common.{subst, cases_Bool, inl, inr, true≢false, cond-true, cond-false, map-append, append-nil, false_from_ne_true}
-use Rattle.std.proofs.lemmas.List.Elements.{All-append, filter-append}
-use Rattle.std.proofs.lemmas.List.Folds.{list_any-append}
+-- Pieces that are asked for pins one after the other, until all have been, or memory runs out at one of them.
+use Rattle.fs_types.proofs.Common.{◌≡◌, ℕ, ◌<◌, Bool, true, false, ◌||◌, not, List, [], ◌∷◌, ◌++◌, map, filter, take, drop, length, get_or}
+use Rattle.fs_types.proofs.Common.{All, All-push, Result, Ok, Err, refl, sym, ap, ◌∙◌, subst, arith, cases_Bool, inl, inr, true≢false}
+use Rattle.fs_types.proofs.Common.{append-nil, cond-true, cond-false, false_from_ne_true, get_or-take, length-take-le, map_push, or_cases, or_left}
+use Rattle.std.proofs.lemmas.List.{get_or_default, take-append-drop}
+use Rattle.std.proofs.lemmas.List.Elements.{filter-append}
+use Rattle.std.proofs.lemmas.List.Folds.{list_any-append, list_any_at, list_any_none}
+use Rattle.std.proofs.Math.Bool.{or-false}
+use Rattle.std.specs.Prelude.{AllPairs}
 use Rattle.std.specs.Option.{option_map_or}
+use Rattle.std.specs.Result.{OnErr}
 use Rattle.fs_types.specs.Fragments.{piece_eq}
 use Rattle.fs_types.specs.Pieces.{Piece}
 use Rattle.fs_types.specs.Room.{is_at_most}
 use Rattle.fs_types.specs.declared.hold.Hold as hold
 use Rattle.piece_table.specs.HeldSpans.{Held}
-use Rattle.piece_table.proofs.CallerLemmas.{same_piece}
-use Rattle.owner_book.specs.Lookups.{Asks, AsksOne, IsLike, Pins, is_bare, is_one_of}
-
-or_false : (b : Bool) → (b || false) ≡ b
-or_false true = refl
-or_false false = refl
+use Rattle.piece_table.proofs.CallerLemmas.{piece_eq-comm, piece_eq-itself, same_piece}
+use Rattle.owner_book.specs.Lookups.{Asks, AsksOne, HoldsBecome, IsAsked, IsPinOf, MayAsk, MayBeAsked, Pins, is_bare, is_one_of}
 
 -- what is one of a list of one piece is that piece
-pub the-one : (p q : Piece) → is_one_of (p ∷ []) q ≡ true → q ≡ p
-the-one p q is = same_piece q p (sym (or_false (piece_eq q p)) ∙ is)
+the-one : (p q : Piece) → is_one_of (p ∷ []) q ≡ true → q ≡ p
+the-one p q is = same_piece q p (sym (or-false (piece_eq q p)) ∙ is)
 
-or_none : (a b : Bool) → (a || b) ≡ false → (a ≡ false) × (b ≡ false)
-or_none false b e = (refl, e)
-or_none true b e = absurd (true≢false e)
+-- a piece of some is another than one that is none of them
+another : (ps : List Piece) (p q : Piece) → is_one_of ps p ≡ false → is_one_of ps q ≡ true → is_one_of (p ∷ []) q ≡ false
+another ps p q fresh is =
+    false_from_ne_true (is_one_of (p ∷ []) q) (λ one. true≢false (sym is ∙ ap (is_one_of ps) (the-one p q one) ∙ fresh))
+
+-- a piece is none of those before it, where each is there once, and is one of all
+module _ (ps : List Piece) (k : ℕ) (p : Piece) (is : p ≡ get_or ps k p) (within : k < length ps) where
+  pub fresh : AllPairs (λ x y. piece_eq x y ≡ false) ps → is_one_of (take k ps) p ≡ false
+  fresh once = list_any_none (piece_eq p) (take k ps) (λ i d below.
+      let len : length (take k ps) ≡ k = length-take-le k ps (omega (arith, within)) in
+      let before : i < k = omega (arith, below, len) in
+      ap (piece_eq p) (get_or-take k ps i d before) ∙ piece_eq-comm p (get_or ps i d)
+      ∙ ap (piece_eq (get_or ps i d)) (is ∙ get_or_default ps k p d within) ∙ once i k d before within)
+
+  pub one-there : is_one_of ps p ≡ true
+  one-there = list_any_at (piece_eq p) ps k p within (ap (piece_eq p) (sym is) ∙ piece_eq-itself p)
+
+-- what is so is so after a refusal
+pub after-refusal : {X E A : Type 0} (r : Result X E) → A → OnErr r A
+after-refusal (Ok x) a = tt
+after-refusal (Err e) a = a
+
+-- ---- how holds become others
+
+module _ {H : Type 0} where
+  -- where those of some pieces did, and those of others then, those of both did
+  becomes-then : (R : H → H → Type 0) (ps qs : List Piece) (a b c : Held H) → HoldsBecome R ps a b → HoldsBecome R qs b c
+      → ((q : Piece) → is_one_of ps q ≡ true → is_one_of qs q ≡ false) → HoldsBecome R (ps ++ qs) a c
+  becomes-then R ps qs a b c first second apart = record {
+    fragments = second.fragments ∙ first.fragments;
+    became = λ q h is was. elim (cases_Bool (is_one_of ps q)) [
+      | inl before ↦ let then = first.became q h before was in (then.0, second.others q (apart q before) ∙ then.1, then.2)
+      | inr others ↦
+          second.became q h (sym (ap (λ b. b || is_one_of qs q) others) ∙ both q ∙ is) (first.others q others ∙ was)
+    ];
+    others = λ q is.
+        let none = none-of (is_one_of ps q) (is_one_of qs q) (both q ∙ is) in
+        second.others q none.1 ∙ first.others q none.0;
+  }
+    where
+      both : (q : Piece) → (is_one_of ps q || is_one_of qs q) ≡ is_one_of (ps ++ qs) q
+      both q = sym (list_any-append (piece_eq q) ps qs)
+
+      none-of : (a b : Bool) → (a || b) ≡ false → (a ≡ false) × (b ≡ false)
+      none-of false b e = (refl, e)
+      none-of true b e = absurd (true≢false e)
+
+  -- what some did is what all of more may do, where the others stay
+  becomes-wider : (R S : H → H → Type 0) → ((g h : H) → R g h → S g h) → ((h : H) → S h h) → (ps all : List Piece) (a b : Held H)
+      → ((q : Piece) → is_one_of ps q ≡ true → is_one_of all q ≡ true) → HoldsBecome R ps a b → HoldsBecome S all a b
+  becomes-wider R S weaker stays ps all a b within became = record {
+    fragments = became.fragments;
+    became = λ q h is was. elim (cases_Bool (is_one_of ps q)) [
+      | inl before ↦ let then = became.became q h before was in (then.0, then.1, weaker h then.0 then.2)
+      | inr none ↦ (h, became.others q none ∙ was, stays h)
+    ];
+    others = λ q is. became.others q (false_from_ne_true (is_one_of ps q) (λ one. true≢false (sym (within q one) ∙ is)));
+  }
+
+-- the pieces so far were asked, and the next one may have been: so each of all may have been
+module _ {H : Type 0} (met : hold.Ghosts H) (first old new : Held H) (all : List Piece) (k : ℕ) (p : Piece) where
+  pub may-ask : Asks met (take k all) first old → MayAsk met (p ∷ []) old new → is_one_of (take k all) p ≡ false
+      → is_one_of all p ≡ true → MayAsk met all first new
+  may-ask asks may fresh here =
+      let May : H → H → Type 0 = MayBeAsked met in
+      let tried : (g h : H) → IsAsked met g h → May g h = λ g h asked. inr (record { like = asked.like; room = inr asked.room }) in
+      becomes-wider May May (λ g h may. may) (λ h. inl refl) (take k all ++ p ∷ []) all first new within
+      (becomes-then May (take k all) (p ∷ []) first old new
+      (becomes-wider (IsAsked met) May tried (λ h. inl refl) (take k all) (take k all) first old (λ q is. is) asks) may
+      (λ q is. another (take k all) p q fresh is))
+    where
+      within : (q : Piece) → is_one_of (take k all ++ p ∷ []) q ≡ true → is_one_of all q ≡ true
+      within q is = elim (or_cases (is_one_of (take k all) q) (is_one_of (p ∷ []) q)
+          (sym (list_any-append (piece_eq q) (take k all) (p ∷ [])) ∙ is)) [
+            | inl before ↦
+                ap (λ qs. is_one_of qs q) (sym (take-append-drop k all)) ∙ list_any-append (piece_eq q) (take k all) (drop k all)
+                ∙ or_left (is_one_of (take k all) q) (is_one_of (drop k all) q) before
+            | inr this ↦ ap (is_one_of all) (the-one p q this) ∙ here
+          ]
+
+-- ---- one more piece was asked
 
 module _ {H : Type 0} (met : hold.Ghosts H) (first old new : Held H) (ps : List Piece) (p : Piece) (holds holds' : List H)
-    (bare bare' : List Piece) (pins : Pins met first ps holds bare) (asks : Asks met ps first old) (fresh : is_one_of ps p ≡ false)
-    (one : AsksOne met p old new holds holds' bare bare') (h0 : H) (there : first.hold_of p ≡ Some h0) (theirs : met.piece h0 ≡ p) where
+    (bare bare' : List Piece) (asks : Asks met ps first old) (fresh : is_one_of ps p ≡ false)
+    (one : AsksOne met p old new holds holds' bare bare') where
+  pub asks-more : Asks met (ps ++ p ∷ []) first new
+  asks-more = becomes-then (IsAsked met) ps (p ∷ []) first old new asks one.asks (λ q is. another ps p q fresh is)
+
   -- the piece has the hold that it had at first
   same : old.hold_of p ≡ first.hold_of p
   same = asks.others p fresh
 
-  bare_same : is_bare met old p ≡ is_bare met first p
-  bare_same = ap (λ o. option_map_or (λ h. is_at_most (met.room h) 0) o false) same
+  bare-same : is_bare met first p ≡ is_bare met old p
+  bare-same = ap (λ o. option_map_or (λ h. is_at_most (met.room h) 0) o false) (sym same)
 
-  more : (f : Piece → Bool) → filter f (ps ++ p ∷ []) ≡ filter f ps ++ filter f (p ∷ [])
-  more f = filter-append f ps (p ∷ [])
+  -- the pieces that pass a test with one more, which does, or doesn't
+  with-it : (f : Piece → Bool) → f p ≡ true → filter f ps ++ p ∷ [] ≡ filter f (ps ++ p ∷ [])
+  with-it f is = ap (λ xs. filter f ps ++ xs) (sym (cond-true (f p) (p ∷ []) [] is)) ∙ sym (filter-append f ps (p ∷ []))
 
-  only : (f : Piece → Bool) → f p ≡ true → filter f (p ∷ []) ≡ p ∷ []
-  only f is = cond-true (f p) (p ∷ []) [] is
+  without-it : (f : Piece → Bool) → f p ≡ false → filter f ps ≡ filter f (ps ++ p ∷ [])
+  without-it f is =
+      sym (append-nil (filter f ps)) ∙ ap (λ xs. filter f ps ++ xs) (sym (cond-false (f p) (p ∷ []) [] is)) ∙ sym (filter-append f ps (p ∷ []))
 
-  nothing : (f : Piece → Bool) → f p ≡ false → filter f (p ∷ []) ≡ []
-  nothing f is = cond-false (f p) (p ∷ []) [] is
-
-  pub pins-more : Pins met first (ps ++ p ∷ []) holds' bare'
-  pins-more = elim one.adds [
-    | inl is ↦
-        let full = sym bare_same ∙ is.0 in
-        record {
-          without = is.2 ∙ ap (λ xs. xs ++ p ∷ []) pins.without ∙ sym (more (is_bare met first)
-              ∙ ap (λ xs. filter (is_bare met first) ps ++ xs) (only (is_bare met first) full));
-          pinned = ap (map met.piece) is.1 ∙ pins.pinned ∙ sym (more (λ q. not (is_bare met first q))
-              ∙ ap (λ xs. filter (λ q. not (is_bare met first q)) ps ++ xs) (nothing (λ q. not (is_bare met first q)) (ap not full))
-              ∙ append-nil (filter (λ q. not (is_bare met first q)) ps));
-          each = subst (All (λ pin. (h : H) → first.hold_of (met.piece pin) ≡ Some h → IsLike met h pin)) (sym is.1) pins.each;
-        }
-    | inr is ↦
-        let empty = sym bare_same ∙ is.0 in
-        let of : met.piece is.2 ≡ p = (is.4 h0 (same ∙ there)).piece ∙ theirs in
-        record {
-          without = is.1 ∙ pins.without ∙ sym (more (is_bare met first)
-              ∙ ap (λ xs. filter (is_bare met first) ps ++ xs) (nothing (is_bare met first) empty)
-              ∙ append-nil (filter (is_bare met first) ps));
-          pinned = ap (map met.piece) is.3 ∙ map-append met.piece holds (is.2 ∷ []) ∙ (λ i. pins.pinned i ++ of i ∷ [])
-              ∙ sym (more (λ q. not (is_bare met first q))
-              ∙ ap (λ xs. filter (λ q. not (is_bare met first q)) ps ++ xs) (only (λ q. not (is_bare met first q)) (ap not empty)));
-          each = subst (All (λ pin. (h : H) → first.hold_of (met.piece pin) ≡ Some h → IsLike met h pin)) (sym is.3)
-              (All-append (λ pin. (h : H) → first.hold_of (met.piece pin) ≡ Some h → IsLike met h pin) holds (is.2 ∷ []) pins.each
-              (All-cons (λ pin. (h : H) → first.hold_of (met.piece pin) ≡ Some h → IsLike met h pin) is.2 []
-              (λ h e. is.4 h (same ∙ ap first.hold_of (sym of) ∙ e))
-              (All-nil (λ pin. (h : H) → first.hold_of (met.piece pin) ≡ Some h → IsLike met h pin))));
-        }
-  ]
-
-  -- a piece of those before isn't the new one
-  other : (q : Piece) → is_one_of ps q ≡ true → is_one_of (p ∷ []) q ≡ false
-  other q before = false_from_ne_true (is_one_of (p ∷ []) q)
-      (λ is. true≢false (sym before ∙ ap (is_one_of ps) (the-one p q is) ∙ fresh))
-
-  pub asks-more : Asks met (ps ++ p ∷ []) first new
-  asks-more = record {
-    fragments = one.asks.fragments ∙ asks.fragments;
-    became = λ q h is was. elim (cases_Bool (is_one_of ps q)) [
-      | inl before ↦ let then = asks.became q h before was in (then.0, one.asks.others q (other q before) ∙ then.1, then.2)
-      | inr others ↦
-          let here = sym (ap (λ b. b || is_one_of (p ∷ []) q) others) ∙ sym (list_any-append (piece_eq q) ps (p ∷ [])) ∙ is in
-          one.asks.became q h here (asks.others q others ∙ was)
-    ];
-    others = λ q is.
-        let none = or_none (is_one_of ps q) (is_one_of (p ∷ []) q) (sym (list_any-append (piece_eq q) ps (p ∷ [])) ∙ is) in
-        one.asks.others q none.1 ∙ asks.others q none.0;
-  }
+  pub pins-more : Pins met first ps holds bare → Pins met first (ps ++ p ∷ []) holds' bare'
+  pins-more pins =
+      let bares = is_bare met first in
+      let roomy : Piece → Bool = λ q. not (is_bare met first q) in
+      elim one.adds [
+        | inl is ↦
+            let full : bares p ≡ true = bare-same ∙ is.0 in
+            record {
+              without = is.2 ∙ ap (λ xs. xs ++ p ∷ []) pins.without ∙ with-it bares full;
+              pinned = ap (map met.piece) is.1 ∙ pins.pinned ∙ without-it roomy (ap not full);
+              each = subst (All (IsPinOf met first)) (sym is.1) pins.each;
+            }
+        | inr is ↦
+            let empty : bares p ≡ false = bare-same ∙ is.0 in
+            let of : met.piece is.2 ≡ p = is.4 in
+            let here : first.hold_of (met.piece is.2) ≡ old.hold_of (met.piece is.2) =
+            ap first.hold_of of ∙ sym same ∙ ap old.hold_of (sym of) in
+            record {
+              without = is.1 ∙ pins.without ∙ without-it bares empty;
+              pinned = ap (map met.piece) is.3 ∙ map_push met.piece holds is.2 ∙ (λ i. pins.pinned i ++ of i ∷ [])
+                  ∙ with-it roomy (ap not empty);
+              each = subst (All (IsPinOf met first)) (sym is.3)
+                  (All-push (IsPinOf met first) holds is.2 pins.each (is.5.0, here ∙ is.5.1, is.5.2));
+            }
+      ]

@@ -1,13 +1,13 @@
 -- A hold that was asked for a pin.
-use Rattle.fs_types.proofs.Common.{◌≡◌, ℕ, Bool, true, false, ◌||◌, [], ◌∷◌, Option, Some, None, refl, sym, ap, ◌∙◌}
-use Rattle.fs_types.proofs.Common.{subst, Result, Ok, Err, false_from_ne_true, cases_Bool, inl, inr, true≢false, cond-true, cond-false}
-use Rattle.fs_types.proofs.Common.{same_Some, arith, leb-true}
+use Rattle.fs_types.proofs.Common.{◌≡◌, ℕ, Bool, true, false, [], ◌∷◌, Option, Some, None, Result, Ok, Err, refl, sym, ap, ◌∙◌, subst, arith}
+use Rattle.fs_types.proofs.Common.{cond-true, cond-false, leb-true, same_Some, true≢false}
+use Rattle.std.proofs.Math.Bool.{or-false}
 use Rattle.fs_types.specs.Fragments.{piece_eq}
 use Rattle.fs_types.specs.Pieces.{Piece}
 use Rattle.fs_types.specs.Room.{is_at_most, lowered}
 use Rattle.piece_table.specs.HeldSpans.{Kept, SetsHold, held}
 use Rattle.piece_table.specs.PieceTable.{hold_of}
-use Rattle.piece_table.proofs.CallerLemmas.{same_piece, piece_eq-sym}
+use Rattle.piece_table.proofs.CallerLemmas.{piece_eq-comm, same_piece}
 use Rattle.owner_book.specs.Lookups.{HoldsBecome, is_one_of}
 
 abbrev is_ok : {X E : Type 0} → Result X E → Bool
@@ -24,25 +24,16 @@ lowered-none (Some n) at_most = let le = leb-true n 0 at_most in ap Some (omega 
 
 module _ {H : Type 0} (R : H → H → Type 0) (p : Piece) (h w : H) (old new : Kept H) (sets : SetsHold p w old new)
     (was : hold_of old.pieces p ≡ Some h) where
-  one : (q : Piece) → is_one_of (p ∷ []) q ≡ true → piece_eq p q ≡ true
-  one q is = elim (cases_Bool (piece_eq q p)) [
-    | inl same ↦ piece_eq-sym q p same
-    | inr other ↦ absurd (true≢false (sym is ∙ ap (λ b. b || false) other))
-  ]
-
-  none : (q : Piece) → is_one_of (p ∷ []) q ≡ false → piece_eq p q ≡ false
-  none q is = elim (cases_Bool (piece_eq q p)) [
-    | inr other ↦ false_from_ne_true (piece_eq p q) (λ same. true≢false (sym (piece_eq-sym p q same) ∙ other))
-    | inl same ↦ absurd (true≢false (sym (ap (λ b. b || false) same) ∙ is))
-  ]
+  one : (q : Piece) → piece_eq p q ≡ is_one_of (p ∷ []) q
+  one q = piece_eq-comm p q ∙ sym (or-false (piece_eq q p))
 
   -- the hold of the one piece became another
   pub becomes-lent : R h w → HoldsBecome R (p ∷ []) (held old) (held new)
   becomes-lent r = record {
     fragments = sets.fragments;
     became = λ q x is there.
-        let same = one q is in
+        let same : piece_eq p q ≡ true = one q ∙ is in
         let first : h ≡ x = same_Some h x (sym was ∙ ap (hold_of old.pieces) (same_piece p q same) ∙ there) in
         (w, sets.pieces.holds q ∙ cond-true (piece_eq p q) (Some w) (hold_of old.pieces q) same, subst (λ y. R y w) first r);
-    others = λ q is. sets.pieces.holds q ∙ cond-false (piece_eq p q) (Some w) (hold_of old.pieces q) (none q is);
+    others = λ q is. sets.pieces.holds q ∙ cond-false (piece_eq p q) (Some w) (hold_of old.pieces q) (one q ∙ is);
   }

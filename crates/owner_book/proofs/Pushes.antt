@@ -1,11 +1,11 @@
 -- Fragments that a push puts over those of a file: what they are with their holds, and where they end.
-use Rattle.fs_types.proofs.Common.{◌≡◌, ℕ, ◌≤◌, max, List, [], ◌∷◌, None, All, All-head, All-tail, if◌then◌else◌, ◌∙◌, ap, arith}
+use Rattle.fs_types.proofs.Common.{◌≡◌, ℕ, ◌≤◌, max, List, [], ◌∷◌, All, All-head, All-tail, if◌then◌else◌, ◌∙◌, ap, arith}
 use Rattle.fs_types.specs.Fragments.{end_of}
 use Rattle.fs_types.specs.Pieces.{Fragment}
 use Rattle.fs_types.specs.declared.limits.TheConstants.{LONGEST_FILE}
 use Rattle.span_list.specs.Spans.{put_fragment}
 use Rattle.span_list.proofs.CallerLemmas.{put_ends}
-use Rattle.piece_table.specs.HeldSpans.{Held, PutsAll, is_named, put_fragments}
+use Rattle.piece_table.specs.HeldSpans.{Held, PutsAll, is_named, put_fragments, while_named}
 use Rattle.owner_book.specs.Kept.{AreWithin}
 use Rattle.owner_book.specs.Commits.{laid_over, size_after}
 
@@ -14,7 +14,7 @@ pub laid-is : {H : Type 0} (over old new : Held H) → PutsAll over old new → 
 laid-is over old new puts = λ i. record {
   fragments = puts.fragments i;
   hold_of = λ q. (puts.holds q ∙ ap (λ (fs : List Fragment). if is_named over.fragments q then over.hold_of q
-      else if is_named fs q then old.hold_of q else None) puts.fragments) i;
+      else while_named fs old.hold_of q) puts.fragments) i;
 }
 
 -- they end within the size after

@@ -1,5 +1,5 @@
 -- A path's file is the state of its journal after a look-up, and with another hold of a piece.
-use Rattle.fs_types.proofs.Common.{◌≡◌, ◌≤◌, List, All, Option, Some, None, IfSome, option_map, refl, sym, ap, ◌∙◌, subst, inl, inr, true≢false}
+use Rattle.fs_types.proofs.Common.{◌≡◌, ◌≤◌, List, All, Option, Some, None, option_map, refl, sym, ap, ◌∙◌, subst, inl, inr, true≢false}
 use Rattle.fs_types.specs.FragmentMarks.{marks_of_fragments}
 use Rattle.fs_types.specs.Fragments.{end_of}
 use Rattle.fs_types.specs.Pieces.{Piece}

@@ -129,7 +129,8 @@ module _ {H : Type 0} where
       changed-stands (λ f. with_size size (with_push piece push f)) (truncation over size)
       (λ f unfrozen within. (
         unfrozen-marks f.frozen _ (marks_of_fragments f.held.fragments f.size) _ unfrozen
-            (marks_of_fragments-cut size (put_fragments over f.held.fragments) (size_after f.size over) (ends-laid over f.held.fragments f.size within)
+            (marks_of_fragments-cut size (put_fragments over f.held.fragments) (size_after f.size over)
+            (ends-laid over f.held.fragments f.size within)
             ∙ ap (λ ms. cut no_mark ms size) (marks-laid over f.held.fragments f.size some within)),
         cut_ends size (put_fragments over f.held.fragments),
       ))

@@ -1,5 +1,5 @@
 -- Which holds come out of a file over which a push was put, and which was cut then.
-use Rattle.fs_types.proofs.Common.{◌≡◌, ℕ, Bool, true, false, List, [], ◌++◌, Option, Some, None, is_some, if◌then◌else◌}
+use Rattle.fs_types.proofs.Common.{◌≡◌, ℕ, Bool, true, false, List, [], ◌++◌, Some, None, is_some, if◌then◌else◌}
 use Rattle.fs_types.proofs.Common.{All, All-append, All-weaker, Contains-append_left, Contains-append_right, sym, ap, ◌∙◌, subst}
 use Rattle.fs_types.proofs.Common.{cases_Bool, cond-false, cond-true, false_from_ne_true, inl, inr, none-some, true≢false}
 use Rattle.fs_types.specs.Fragments.{piece_eq}

@@ -3,7 +3,7 @@ use Rattle.std.specs.Prelude.{◌≡◌, ℕ, max, List, [], ◌∷◌, ◌++◌
 use Rattle.fs_types.specs.Fragments.{IsWellFormedPush, end_of}
 use Rattle.fs_types.specs.Pieces.{Fragment, Piece}
 use Rattle.fs_types.specs.declared.push.Push.{Push}
-use Rattle.piece_table.specs.HeldSpans.{AreGone, AreHeld, Held, is_named, pushed, put_fragments}
+use Rattle.piece_table.specs.HeldSpans.{AreGone, AreHeld, Held, is_named, pushed, put_fragments, while_named}
 use Rattle.owner_book.specs.Kept.{Book, BookFile, BookPath, held_at, path_in}
 
 -- how many bytes a file has once these fragments were put into one of so many
@@ -17,7 +17,7 @@ module _ {H : Type 0} where
       let fragments : List Fragment = put_fragments over.fragments old.fragments in
       record {
         fragments = fragments;
-        hold_of = λ q. if is_named over.fragments q then over.hold_of q else if is_named fragments q then old.hold_of q else None;
+        hold_of = λ q. if is_named over.fragments q then over.hold_of q else while_named fragments old.hold_of q;
       }
 
   -- a file over which a push was put

@@ -5,4 +5,5 @@ pub mod Commits
 pub mod Truncations
 pub mod Journals
 pub mod Lookups
+pub mod LookupLaws
 pub mod HoldLends

@@ -1,6 +1,6 @@
 -- What a look-up finds: the parts of a file's fragments in a range, and a pin of each piece that they name, or the piece alone.
 use Rattle.std.specs.Prelude.{◌≡◌, ℕ, nat_le, nat_lt, ◌⊎◌, Bool, ◌&&◌, true, false, not, IsTrue, List, [], ◌∷◌, ◌++◌, map, filter, fold, All}
-use Rattle.std.specs.Prelude.{Option, Some, None, if◌then◌else◌}
+use Rattle.std.specs.Prelude.{Some, None, if◌then◌else◌}
 use Rattle.std.specs.List.{flat_map, list_any}
 use Rattle.std.specs.Option.{option_map_or}
 use Rattle.fs_types.specs.FragmentMarks.{mark_at}
@@ -54,11 +54,15 @@ module _ {H : Type 0} (met : hold.Ghosts H) where
     pub bytes : met.bytes now ≡ met.bytes was
     pub place : met.place now ≡ met.place was
 
+  -- a pin is like the hold of its piece, which is there
+  abbrev pub IsPinOf : Held H → H → Type 0
+  IsPinOf x pin = (h : H) × (x.hold_of (met.piece pin) ≡ Some h) × IsLike h pin
+
   -- Each of the pieces has one pin, or is bare, which it is exactly where its hold has no room for a pin.
   pub record Pins (x : Held H) (pieces : List Piece) (holds : List H) (bare : List Piece) : Type 0 where
     pub without : bare ≡ filter (is_bare x) pieces
     pub pinned : map met.piece holds ≡ filter (λ q. not (is_bare x q)) pieces
-    pub each : All (λ pin. (h : H) → x.hold_of (met.piece pin) ≡ Some h → IsLike h pin) holds
+    pub each : All (IsPinOf x) holds
 
   -- a hold that was asked for a pin with no room: what that takes from its room is gone, if it has any
   pub record IsAsked (was now : H) : Type 0 where
@@ -87,4 +91,4 @@ module _ {H : Type 0} (met : hold.Ghosts H) where
     pub asks : Asks (p ∷ []) old new
     pub adds : ((is_bare old p ≡ true) × (holds' ≡ holds) × (bare' ≡ bare ++ p ∷ []))
         ⊎ ((is_bare old p ≡ false) × (bare' ≡ bare)
-        × (pin : H) × (holds' ≡ holds ++ pin ∷ []) × ((h : H) → old.hold_of p ≡ Some h → IsLike h pin))
+        × (pin : H) × (holds' ≡ holds ++ pin ∷ []) × (met.piece pin ≡ p) × IsPinOf old pin)

@@ -3,7 +3,7 @@ use Rattle.std.specs.Prelude.{ℕ, List, [], ◌∷◌, ◌++◌, Option, Some, 
 use Rattle.fs_types.specs.Pieces.{Fragment, Piece}
 use Rattle.fs_types.specs.declared.push.Push.{Push}
 use Rattle.span_list.specs.Spans.{cut_fragments}
-use Rattle.piece_table.specs.HeldSpans.{AreGone, Held, is_named, pushed}
+use Rattle.piece_table.specs.HeldSpans.{AreGone, Held, is_named, pushed, while_named}
 use Rattle.owner_book.specs.Commits.{with_push}
 use Rattle.owner_book.specs.Kept.{BookFile, BookPath, held_at}
 
@@ -12,7 +12,7 @@ module _ {H : Type 0} where
   abbrev pub cut_off : ℕ → Held H → Held H
   cut_off size old =
       let fragments : List Fragment = cut_fragments size old.fragments in
-      record { fragments = fragments; hold_of = λ q. if is_named fragments q then old.hold_of q else None }
+      record { fragments = fragments; hold_of = while_named fragments old.hold_of }
 
   -- a file that was cut to so many bytes, or extended to them by bytes that nobody wrote
   abbrev pub with_size : ℕ → BookFile H → BookFile H

@@ -13,7 +13,8 @@ ghost use Rattle.owner_book.specs.Calls.{change_refusal, create_refusal, no_file
 ghost use Rattle.owner_book.specs.Commits.{AreDead, HasHolds, MayCommit, with_commit};
 ghost use Rattle.owner_book.specs.HoldLends.{lends_hold_of};
 ghost use Rattle.owner_book.specs.Lookups.{Asks, IsLooked, MayAsk, Pins, parts_in, pieces_named};
-ghost use Rattle.owner_book.specs.Truncations.{AreDeadOfBoth, changed, held_before, with_truncation};
+ghost use Rattle.owner_book.specs.Truncations.{AreDeadOfBoth, changed, held_before};
+ghost use Rattle.owner_book.specs.Truncations.{with_truncation};
 
 use crate::book_no::BookNo;
 use crate::committed::Committed;

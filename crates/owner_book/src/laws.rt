@@ -3,8 +3,10 @@
 ghost use Rattle.std.specs.Prelude.{[], ℕ, List};
 ghost use Rattle.fs_types.specs.Pieces.{Fragment};
 ghost use Rattle.owner_book.specs.Journals.{CommittedStands, CreatedStands, LentStands};
-ghost use Rattle.owner_book.specs.Journals.{LookedStands, StandsFor, TruncatedStands, UnlinkedStands};
+ghost use Rattle.owner_book.specs.Journals.{LookedStands, StandsFor, TruncatedStands};
+ghost use Rattle.owner_book.specs.Journals.{UnlinkedStands};
 ghost use Rattle.owner_book.specs.Kept.{no_path};
+ghost use Rattle.owner_book.specs.LookupLaws.{PartsAreInRange, PiecesAreOfRange, PinsAreOfRange};
 ghost use Rattle.owner_book.specs.Lookups.{NameRange, parts_in};
 
 use fs_types::Hold;
@@ -26,4 +28,13 @@ pub fn files_are_states_of_their_journals<H: Hold>()
 /// parts have the mark that the file's fragments have there, and at no other place any.
 pub fn lookups_name_the_marks_of_their_range()
     ensures { (from to : ℕ) (fs : List Fragment) → NameRange from to fs (parts_in from to fs) }
+{}
+
+/// What a look-up finds stands within its range in order of place, each part before the next. The
+/// pieces that it names are those of which bytes stand in the range, each once, and so are those of
+/// its pins with the bare ones.
+pub fn lookups_find_each_piece_of_their_range_once<H: Hold>()
+    ensures parts { PartsAreInRange }
+    ensures pieces { PiecesAreOfRange }
+    ensures pins { PinsAreOfRange H.Hold }
 {}

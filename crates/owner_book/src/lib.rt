@@ -27,21 +27,21 @@
 //! - `hold_of` lends the hold of one piece, to read or to change, or gives none where the file
 //!   doesn't name the piece.
 //!
-//! **Refusals.** `BookNo` says why a call is refused, by the path's own file and version: it exists,
-//! there is none, it is frozen, or, where none of these holds, memory ran out. After a refusal the
-//! book is as before, and a push comes back; only a `lookup` that ran out of memory may have lowered
-//! the rooms of holds in its range, each by no more than one pin takes.
+//! **Refusals.** `BookNo` says why a call is refused, by the path's own file and version: it
+//! exists, there is none, it is frozen, or, where none of these holds, memory ran out. After a
+//! refusal the book is as before, and a push comes back; only a `lookup` that ran out of memory may
+//! have lowered the rooms of holds in its range, each by no more than one pin takes.
 //!
 //! **What a caller owes.** `HasHolds` says of a path that each piece of its file, and no other, has
-//! a hold that is ready, of that piece, and as long as the fragments need. That is so in a new book,
-//! each call that asks it leaves it so, and `proofs/CallerLemmas.antt` has the lemmas that carry it
-//! for all paths. `MayCommit` says of a push that it is well formed, which is one hold for each
-//! piece that its fragments name, and fragments that lie in their pieces, in order and apart; that
-//! its holds are ready; and that its pieces are new to the file.
+//! a hold that is ready, of that piece, and as long as the fragments need. That is so in a new
+//! book, each call that asks it leaves it so, and `proofs/CallerLemmas.antt` has the lemmas that
+//! carry it for all paths. `MayCommit` says of a push that it is well formed, which is one hold for
+//! each piece that its fragments name, and fragments that lie in their pieces, in order and apart;
+//! that its holds are ready; and that its pieces are new to the file.
 //!
 //! **Laws.** A file is the state of its journal: each byte bears the mark that its lines make, in
 //! their order; a look-up and a lent hold keep that so. A look-up names exactly the marked bytes of
-//! its range.
+//! its range, in order of place, and finds each piece of the range once.
 //!
 //! An example:
 //!
@@ -73,7 +73,10 @@ mod owned_path;
 pub use book::OwnerBook;
 pub use book_no::BookNo;
 pub use committed::Committed;
-pub use laws::{files_are_states_of_their_journals, lookups_name_the_marks_of_their_range};
+pub use laws::{
+    files_are_states_of_their_journals, lookups_find_each_piece_of_their_range_once,
+    lookups_name_the_marks_of_their_range,
+};
 pub use looked::Looked;
 pub use looking::next_part;
 

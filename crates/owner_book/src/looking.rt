@@ -1,15 +1,17 @@
 //! Parts of fragments in a range, the pieces that they name, and pins of those.
 
-ghost use Rattle.std.specs.Prelude.{◌≡◌, ◌++◌, ◌≤◌, ◌<◌, ◌+◌, [], ◌∷◌, All, AllPairs, Some, IsSome, IfOk, OnOk, OnErr, IfSome, MatchOption, length, vec_len, vec_capacity, false, true};
+ghost use Rattle.std.specs.Prelude.{◌≡◌, ◌≤◌, ◌<◌, ◌+◌, [], ◌∷◌, All, AllPairs, Some, IsSome, IfOk};
+ghost use Rattle.std.specs.Prelude.{OnOk, OnErr, IfSome, MatchOption, length, vec_len};
+ghost use Rattle.std.specs.Prelude.{vec_capacity, false};
 ghost use Rattle.fs_types.specs.Fragments.{end_of, piece_eq};
 ghost use Rattle.span_list.specs.Spans.{IsSpan};
 ghost use Rattle.piece_table.specs.HeldSpans.{AreHeld, held};
-ghost use Rattle.owner_book.specs.Lookups.{Asks, AsksOne, MayAsk, Pins, is_one_of, parts_in, pieces_named};
+ghost use Rattle.owner_book.specs.Lookups.{Asks, AsksOne, MayAsk, Pins, parts_in, pieces_named};
 
 use fs_types::{Frag, Hold, PieceId, PinNo, Want};
 use indexmap::IndexSet;
 use piece_table::HeldSpans;
-use span_list::Spans;
+use span_list::{Spans, rest_before, rest_from};
 use std::alloc::Global;
 
 /// What of the first fragment with bytes in a range stands there, if any does.
@@ -25,16 +27,7 @@ pub fn next_part<H: Hold + Drop, S: Spans>(
     ensures span { IfSome result IsSpan }
 {
     let f = held.next(from)?;
-    let at = f.at.max(from);
-    if to <= at {
-        return None;
-    }
-    Some(Frag {
-        at,
-        len: to.min(f.at + f.len) - at,
-        piece: f.piece,
-        from: f.from + (at - f.at) as u32,
-    })
+    rest_from(rest_before(f, to)?, from)
 }
 
 /// What stands of fragments in a range.

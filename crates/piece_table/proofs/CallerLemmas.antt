@@ -1,4 +1,4 @@
--- What a caller cites of fragments with holds: the crates above import from here alone.
+-- What a caller cites of fragments with holds: whatever the proofs of the crates above need is here.
 
 -- which mark stands at each place after a put of one fragment and of all of a list
 pub use Rattle.piece_table.proofs.Places.{mark_at-Puts, mark_at-PutsAll, mark_at-put_fragments, mark_at-put_ordered}
@@ -8,14 +8,14 @@ pub use Rattle.piece_table.proofs.Places.{named_put}
 -- how many fragments there are after a put of all of a list
 pub use Rattle.piece_table.proofs.Counts.{length-put_fragments}
 -- the comparison of pieces decides whether they are the same
-pub use Rattle.piece_table.proofs.Tables.{same_piece, piece_eq-itself, piece_eq-sym}
+pub use Rattle.piece_table.proofs.Tables.{same_piece, piece_eq-comm, piece_eq-itself, piece_eq-sym}
 -- what is kept once the loan of a hold has ended
 pub use Rattle.piece_table.proofs.Lent.{IsCounted-lent, AreHeld-lent}
 pub use Rattle.piece_table.proofs.HeldAnew.{held-anew}
 -- what holds of the pieces of a push's holds holds of the pieces that its fragments name
 pub use Rattle.piece_table.proofs.Pushed.{of_named_held}
--- the holds of a push that was put, and how many of some are of one piece
-pub use Rattle.piece_table.proofs.Entered.{AreApart, is_of}
+-- the holds of a push that was put, how many of some are of one piece, and that none is found where none is
+pub use Rattle.piece_table.proofs.Entered.{AreApart, find-none, is_of}
 pub use Rattle.piece_table.proofs.PushPut.{own_holds}
 pub use Rattle.piece_table.proofs.Pushed.{counts_same}
 pub use Rattle.piece_table.proofs.Taken.{few_of}

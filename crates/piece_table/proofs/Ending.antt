@@ -1,5 +1,5 @@
 -- How many fragments end in a range: at most as many lie whole in it, and a put in front of it adds none.
-use Rattle.fs_types.proofs.Common.{◌≡◌, ℕ, ◌+◌, ◌<◌, ◌≤◌, true, cond, zero, suc, drop, List, [], ◌∷◌, Some, None, All, All-nil, All-cons}
+use Rattle.fs_types.proofs.Common.{◌≡◌, ℕ, ◌+◌, ◌<◌, ◌≤◌, cond, zero, suc, drop, List, [], ◌∷◌, Some, None, All}
 use Rattle.fs_types.proofs.Common.{All-head, All-tail, All-weaker, length, flat_map}
 use Rattle.fs_types.proofs.Common.{◌&&◌, nat_lt, nat_le, arith, nat_tests, refl, ap, ◌∙◌, subst, same_Some, cond_both, sum_by-cons}
 use Rattle.fs_types.proofs.Common.{count_by-le-length, ltb-true, ltb-false}
@@ -248,17 +248,6 @@ under_from at (f ∷ over) fs spans ahead =
 pub few_under : (over fs : List Fragment) → AreSpans over → AreSpans fs → ends_under over fs ≤ LONGEST_FILE
 few_under over fs over_spans spans =
     omega (arith, under_from 0 over fs over_spans (λ k d within. omega arith), few_ending 0 LONGEST_FILE fs spans)
-
--- what lies whole behind a place begins behind it
-pub covered_behind : (at end : ℕ) (fs : List Fragment) → All (λ f. at ≤ f.at) (covered at end fs)
-covered_behind at end [] = All-nil (λ f. at ≤ f.at)
-covered_behind at end (f ∷ fs) =
-    cond_both (is_covered at end f) (f ∷ covered at end fs) (covered at end fs) (All (λ f. at ≤ f.at))
-    (λ inside. All-cons (λ f. at ≤ f.at) f (covered at end fs) (begins inside) (covered_behind at end fs))
-    (λ _. covered_behind at end fs)
-  where
-    begins : is_covered at end f ≡ true → at ≤ f.at
-    begins inside = grind (arith, nat_tests)
 
 -- the fragments of a list from one on are in order too
 pub AreSpans-drop : (i : ℕ) (fs : List Fragment) → AreSpans fs → AreSpans (drop i fs)

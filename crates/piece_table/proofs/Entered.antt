@@ -1,13 +1,13 @@
 -- Pieces that are entered one after another by their holds.
 use Rattle.fs_types.proofs.Common.{◌≡◌, ℕ, ◌+◌, ◌≤◌, IsTrue, length, Bool, false, cond, List, [], ◌∷◌, Some, None, refl, sym, ap, ◌∙◌, arith}
-use Rattle.fs_types.proofs.Common.{All, All-head, All-tail, count_by, get_or, cases_Bool, inl, inr, cond-true, cond-false, sum_by-cons, true≢false}
+use Rattle.fs_types.proofs.Common.{All, All-head, All-tail, count_by, get_or, cases_Bool, inl, inr, cond-true, cond-false, sum_by-cons}
 use Rattle.std.specs.List.{find, AllPairs}
 use Rattle.std.specs.Option.{option_or}
 use Rattle.span_list.proofs.CallerLemmas.{AllPairs-head, AllPairs-tail}
 use Rattle.fs_types.specs.Fragments.{piece_eq}
 use Rattle.fs_types.specs.Pieces.{Piece}
 use Rattle.piece_table.specs.PieceTable.{Pieces, counted_of, number_in, number_of, hold_of}
-use Rattle.piece_table.proofs.Tables.{piece_eq-sym, same_piece, unheld}
+use Rattle.piece_table.proofs.Tables.{piece_eq-comm, same_piece, unheld}
 
 -- what isn't in a list isn't found there
 pub find-none : {X : Type 0} (p : X → Bool) (xs : List X) → All (λ x. p x ≡ false) xs → find p xs ≡ None
@@ -15,13 +15,6 @@ find-none p [] none = refl
 find-none p (x ∷ xs) none =
     cond-false (p x) (Some x) (find p xs) (All-head (λ x. p x ≡ false) x xs none)
     ∙ find-none p xs (All-tail (λ x. p x ≡ false) x xs none)
-
--- two pieces that differ do so either way round
-pub apart_sym : (p q : Piece) → piece_eq p q ≡ false → piece_eq q p ≡ false
-apart_sym p q other = elim (cases_Bool (piece_eq q p)) [
-  | inl same ↦ absurd (true≢false (sym (piece_eq-sym q p same) ∙ other))
-  | inr different ↦ different
-]
 
 module _ {H : Type 0} (piece : H → Piece) where
   -- two holds are of other pieces
@@ -72,7 +65,7 @@ module _ {H : Type 0} (piece : H → Piece) where
     ]
       where
         unlike : All (λ g. is_of (piece h) g ≡ false) rest
-        unlike k d within = apart_sym (piece h) (piece (get_or rest k d)) (AllPairs-head AreApart h rest apart k d within)
+        unlike k d within = piece_eq-comm (piece (get_or rest k d)) (piece h) ∙ AllPairs-head AreApart h rest apart k d within
 
     -- they are still new
     pub entered_new : All (λ g. hold_of old (piece g) ≡ None) rest → All (λ g. hold_of new (piece g) ≡ None) rest

@@ -1,5 +1,5 @@
 -- Fragments with a hold for each piece that they name: what a put keeps, and what is left once the others are out.
-use Rattle.fs_types.proofs.Common.{◌≡◌, ℕ, ◌<◌, ◌≤◌, Bool, true, false, cond, List, [], ◌∷◌, Option, None, is_some}
+use Rattle.fs_types.proofs.Common.{◌≡◌, ℕ, ◌<◌, ◌≤◌, Bool, true, false, List, [], ◌∷◌, Option, None, is_some}
 use Rattle.fs_types.proofs.Common.{All, All-append, All-cons, All-weaker, All-head, All-tail, flat_map, sym, ap, ◌∙◌, arith}
 use Rattle.fs_types.proofs.Common.{cases_Bool, cases_lt, get_or, inl, inr, eq-eqb, ne_eqb, cond-true, cond-false}
 use Rattle.span_list.proofs.CallerLemmas.{AreSpans-cut, AreSpans-put}
@@ -9,6 +9,7 @@ use Rattle.fs_types.specs.Fragments.{end_of, fragment_count}
 use Rattle.fs_types.specs.Pieces.{Piece, Fragment}
 use Rattle.span_list.specs.Spans.{IsSpan, AreSpans, rest_before, rest_from, cut_fragments, put_fragment}
 use Rattle.piece_table.specs.HeldSpans.{AreHeld, HandsOver, Held, IsCounted, Kept, LiesIn, held, is_named, kept, kept_with, put_fragments}
+use Rattle.piece_table.specs.HeldSpans.{while_named}
 use Rattle.piece_table.specs.PieceTable.{AreReady, AreTheirs, Pieces, number_of, hold_of}
 use Rattle.piece_table.specs.Thinning.{Thins, ComesOut}
 use Rattle.piece_table.proofs.Counts.{All-named, count-cons, head_named, named_by_put, named_none, named_some, naming_one, some_named}
@@ -111,55 +112,64 @@ module _ {H : Type 0} (byte_count : H → ℕ) where
     pub HaveHolds-kept : (x : Kept H) → IsKept is_ready piece_of byte_count x → HaveHolds (hold_of x.pieces) x.fragments
     HaveHolds-kept x is = HaveHolds-held (held x) is.are_held
 
-    -- Once all fragments are put that were counted, and what none names is out, the rest is kept. What came out are the holds
-    -- that were held before, where the pieces that got another hold are named.
-    module _ (before laid : Pieces H) (fs : List Fragment) (have : HaveHolds (hold_of before) fs)
-        (ready : AreReady is_ready (hold_of before)) (theirs : AreTheirs piece_of (hold_of before))
-        (numbers : (q : Piece) → number_of laid q ≡ fragment_count q fs) (thins : Thins before laid) where
-      pub hold_laid : (q : Piece) → hold_of laid q ≡ cond (is_named fs q) (hold_of before q) None
-      hold_laid q = elim (cases_Bool (is_named fs q)) [
-        | inl named ↦
-            let some = named_some q fs named in
-            let test = ne_eqb (number_of laid q) 0 (λ zero. let no : ⊥ = omega (arith, numbers q) in no) in
-            thins.holds q ∙ cond-false _ None (hold_of before q) test ∙ sym (cond-true _ (hold_of before q) None named)
-        | inr unnamed ↦
-            let test = eq-eqb (number_of laid q) 0 (numbers q ∙ named_none q fs unnamed) in
-            thins.holds q ∙ cond-true _ None (hold_of before q) test ∙ sym (cond-false _ (hold_of before q) None unnamed)
-      ]
+-- A table in which each piece that these fragments name has a hold, ready and of that piece, and what is left of it once it counts
+-- the fragments of each piece, and the holds of the others are out.
+pub record AreLaid {H : Type 0} (is_ready : H → Bool) (piece_of : H → Piece) (byte_count : H → ℕ) (before laid : Pieces H)
+    (fs : List Fragment) : Type 0 where
+  pub have : HaveHolds byte_count (hold_of before) fs
+  pub ready : AreReady is_ready (hold_of before)
+  pub theirs : AreTheirs piece_of (hold_of before)
+  pub numbers : (q : Piece) → number_of laid q ≡ fragment_count q fs
+  pub thins : Thins before laid
 
-      pub IsKept-laid : IsKept is_ready piece_of byte_count (kept fs laid)
-      IsKept-laid = record {
-        are_held = record {
-          spans = have.spans;
-          named = λ q. ap is_some (hold_laid q) ∙ elim (cases_Bool (is_named fs q)) [
-            | inl named ↦ ap is_some (cond-true _ (hold_of before q) None named) ∙ have.named q (named_some q fs named) ∙ sym named
-            | inr unnamed ↦ ap is_some (cond-false _ (hold_of before q) None unnamed) ∙ sym unnamed
-          ];
-          piece = λ q h is. theirs q h (held_before before laid thins q h is);
-          ready = λ q h is. ready q h (held_before before laid thins q h is);
-          within = All-weaker (LiesIn byte_count (hold_of before)) (LiesIn byte_count (hold_of laid))
-              (λ f lies h is. lies h (held_before before laid thins f.piece h is)) fs have.within;
-        };
-        numbers = numbers;
-      }
+module _ {H : Type 0} {is_ready : H → Bool} {piece_of : H → Piece} {byte_count : H → ℕ} {before laid : Pieces H} {fs : List Fragment}
+    (are : AreLaid is_ready piece_of byte_count before laid fs) where
+  pub hold_laid : (q : Piece) → hold_of laid q ≡ while_named fs (hold_of before) q
+  hold_laid q = elim (cases_Bool (is_named fs q)) [
+    | inl named ↦
+        let some = named_some q fs named in
+        let test = ne_eqb (number_of laid q) 0 (λ zero. let no : ⊥ = omega (arith, are.numbers q) in no) in
+        are.thins.holds q ∙ cond-false _ None (hold_of before q) test ∙ sym (cond-true _ (hold_of before q) None named)
+    | inr unnamed ↦
+        let test = eq-eqb (number_of laid q) 0 (are.numbers q ∙ named_none q fs unnamed) in
+        are.thins.holds q ∙ cond-true _ None (hold_of before q) test ∙ sym (cond-false _ (hold_of before q) None unnamed)
+  ]
 
-      module _ (old : Kept H) (same : (q : Piece) → is_named fs q ≡ false → hold_of before q ≡ hold_of old.pieces q) where
-        -- a piece without a hold is not named
-        unnamed_laid : (q : Piece) → hold_of laid q ≡ None → is_named fs q ≡ false
-        unnamed_laid q none = sym (IsKept-laid.are_held.named q) ∙ ap is_some none
+  -- they are kept with it
+  pub IsKept-laid : IsKept is_ready piece_of byte_count (kept fs laid)
+  IsKept-laid = record {
+    are_held = record {
+      spans = are.have.spans;
+      named = λ q. ap is_some (hold_laid q) ∙ elim (cases_Bool (is_named fs q)) [
+        | inl named ↦ ap is_some (cond-true _ (hold_of before q) None named) ∙ are.have.named q (named_some q fs named) ∙ sym named
+        | inr unnamed ↦ ap is_some (cond-false _ (hold_of before q) None unnamed) ∙ sym unnamed
+      ];
+      piece = λ q h is. are.theirs q h (held_before before laid are.thins q h is);
+      ready = λ q h is. are.ready q h (held_before before laid are.thins q h is);
+      within = All-weaker (LiesIn byte_count (hold_of before)) (LiesIn byte_count (hold_of laid))
+          (λ f lies h is. lies h (held_before before laid are.thins f.piece h is)) fs are.have.within;
+    };
+    numbers = are.numbers;
+  }
 
-        pub HandsOver-laid : (dead after : List H) → ComesOut piece_of (hold_of before) (hold_of laid) dead after
-            → HandsOver piece_of (held old) (held (kept fs laid)) dead after
-        HandsOver-laid dead after comes =
-            let out = comes.2 in (
-              comes.0,
-              comes.1,
-              record {
-                held = λ k d inside.
-                    let h = get_or comes.0 k d in
-                    sym (same (piece_of h) (unnamed_laid (piece_of h) (out.gone k d inside))) ∙ out.held k d inside;
-                unnamed = λ k d inside. unnamed_laid (piece_of (get_or comes.0 k d)) (out.gone k d inside);
-                each = λ q h was unnamed. out.each q h (same q unnamed ∙ was) (hold_laid q ∙ cond-false _ (hold_of before q) None unnamed);
-                once = out.once;
-              },
-            )
+  module _ (old : Kept H) (same : (q : Piece) → is_named fs q ≡ false → hold_of before q ≡ hold_of old.pieces q) where
+    -- a piece without a hold is not named
+    unnamed_laid : (q : Piece) → hold_of laid q ≡ None → is_named fs q ≡ false
+    unnamed_laid q none = sym (IsKept-laid.are_held.named q) ∙ ap is_some none
+
+    -- what came out are the holds that were held before, where the pieces that got another hold are named
+    pub HandsOver-laid : (dead after : List H) → ComesOut piece_of (hold_of before) (hold_of laid) dead after
+        → HandsOver piece_of (held old) (held (kept fs laid)) dead after
+    HandsOver-laid dead after comes =
+        let out = comes.2 in (
+          comes.0,
+          comes.1,
+          record {
+            held = λ k d inside.
+                let h = get_or comes.0 k d in
+                sym (same (piece_of h) (unnamed_laid (piece_of h) (out.gone k d inside))) ∙ out.held k d inside;
+            unnamed = λ k d inside. unnamed_laid (piece_of (get_or comes.0 k d)) (out.gone k d inside);
+            each = λ q h was unnamed. out.each q h (same q unnamed ∙ was) (hold_laid q ∙ cond-false _ (hold_of before q) None unnamed);
+            once = out.once;
+          },
+        )

@@ -5,8 +5,8 @@ pub mod Counts
 pub mod Releases
 pub mod Moves
 pub mod Holds
-pub mod Lent
 pub mod HeldAnew
+pub mod Lent
 pub mod Entered
 pub mod Ending
 mod Dropped

@@ -1,135 +1,103 @@
--- A fragment of a new piece that was put with its hold.
-use Rattle.fs_types.proofs.Common.{◌≡◌, ℕ, ◌+◌, ◌<◌, ◌≤◌, ◌^◌, Bool, true, false, cond, List, ◌∷◌, Some, None, is_some, IsTrue, sym, ap}
-use Rattle.fs_types.proofs.Common.{◌∙◌, subst, arith}
-use Rattle.fs_types.proofs.Common.{cases_Bool, cases_lt, cond_both, inl, inr, cond-true, cond-false, true≢false, same_Some}
-use Rattle.fs_types.specs.Fragments.{piece_eq, fragment_count}
+-- A fragment of a new piece that is put with its hold: a push of that one fragment and that one hold.
+use Rattle.fs_types.proofs.Common.{◌≡◌, ℕ, ◌+◌, ◌≤◌, Bool, true, false, ◌||◌, cond, [], ◌∷◌, Option, Some, None, is_some}
+use Rattle.fs_types.proofs.Common.{All-cons, All-nil, IsTrue, arith, refl, sym, ap, ◌∙◌, subst, cases_Bool, inl, inr, cond-true, cond-false}
+use Rattle.fs_types.proofs.Common.{cond_both, false≢true, if◌then◌else◌, none-some, same_Some}
+use Rattle.std.specs.Option.{option_or}
+use Rattle.std.proofs.Math.Bool.{or-false}
+use Rattle.fs_types.specs.Fragments.{piece_eq}
 use Rattle.fs_types.specs.Pieces.{Piece, Fragment}
-use Rattle.span_list.specs.Spans.{IsSpan, put_fragment}
-use Rattle.piece_table.specs.HeldSpans.{HandsOver, Kept, Puts, held, is_named, kept}
-use Rattle.piece_table.specs.PieceTable.{AreReady, AreTheirs, Pieces, number_of, hold_of}
-use Rattle.piece_table.specs.Thinning.{Thins, ComesOut}
-use Rattle.piece_table.proofs.Counts.{count-cons, few_named, put_names, some_named}
-use Rattle.piece_table.proofs.Holds.{IsKept, HaveHolds, HaveHolds-kept, HaveHolds-more, HaveHolds-put, hold_laid, IsKept-laid, HandsOver-laid}
-use Rattle.piece_table.proofs.Tables.{piece_eq-itself, piece_eq-sym, same_piece}
+use Rattle.span_list.specs.Spans.{IsSpan}
+use Rattle.span_list.proofs.CallerLemmas.{AllPairs-one, IsAhead}
+use Rattle.piece_table.specs.HeldSpans.{AreHeld, Held, Kept, LiesIn, Puts, PutsAll, pushed, while_named}
+use Rattle.piece_table.specs.PieceTable.{Pieces, number_of, hold_of}
+use Rattle.piece_table.proofs.AllPut.{AreMerged}
+use Rattle.piece_table.proofs.Counts.{count-one, named_none, naming}
+use Rattle.piece_table.proofs.Holds.{IsKept}
+use Rattle.piece_table.proofs.Tables.{piece_eq-comm, same_piece}
 
 module _ {H : Type 0} (is_ready : H → Bool) (piece_of : H → Piece) (byte_count : H → ℕ)
-    (old : Kept H) (f : Fragment) (h : H) (is_kept : IsKept is_ready piece_of byte_count old)
-    (span : IsSpan f) (ready : IsTrue (is_ready h)) (of_f : piece_of h ≡ f.piece) (lies : f.from + f.len ≤ byte_count h)
-    (new : hold_of old.pieces f.piece ≡ None)
-    (entered : Pieces H)
-    (entered_numbers : (q : Piece) → number_of entered q ≡ cond (piece_eq (piece_of h) q) 1 (number_of old.pieces q))
-    (entered_holds : (q : Piece) → hold_of entered q ≡ cond (piece_eq (piece_of h) q) (Some h) (hold_of old.pieces q)) where
-  -- no fragment named the piece
-  new_piece : fragment_count f.piece old.fragments ≡ 0
-  new_piece = elim (cases_lt 0 (fragment_count f.piece old.fragments)) [
-    | inl some ↦ absurd (true≢false (sym (is_kept.are_held.named f.piece ∙ some_named f.piece old.fragments some) ∙ ap is_some new))
-    | inr none ↦ omega arith
-  ]
+    (old : Kept H) (f : Fragment) (h : H) (entered : Pieces H) where
+  abbrev over : Held H
+  over = pushed piece_of (f ∷ []) (h ∷ [])
 
-  -- the fragment is counted before it is put
-  pub entered_counts : (q : Piece) → number_of entered q ≡ fragment_count q (f ∷ old.fragments)
-  entered_counts q = elim (cases_Bool (piece_eq f.piece q)) [
-    | inl same ↦
-        let of_h : piece_eq (piece_of h) q ≡ true = ap (λ (p : Piece). piece_eq p q) of_f ∙ same in
-        let none : fragment_count q old.fragments ≡ 0 =
-        ap (λ (p : Piece). fragment_count p old.fragments) (sym (same_piece f.piece q same)) ∙ new_piece in
-        omega (
-          arith,
-          entered_numbers q,
-          cond-true _ 1 (number_of old.pieces q) of_h,
-          count-cons q f old.fragments,
-          cond-true {A = ℕ} (piece_eq f.piece q) 1 0 same,
-        )
-    | inr other ↦
-        let of_h : piece_eq (piece_of h) q ≡ false = ap (λ (p : Piece). piece_eq p q) of_f ∙ other in
-        omega (
-          arith,
-          entered_numbers q,
-          cond-false _ 1 (number_of old.pieces q) of_h,
-          count-cons q f old.fragments,
-          cond-false {A = ℕ} (piece_eq f.piece q) 1 0 other,
-          is_kept.numbers q,
-        )
-  ]
+  -- its one hold is of the piece of the fragment
+  own : (q : Piece) (g : H) → over.hold_of q ≡ Some g → (piece_eq (piece_of h) q ≡ true) × (h ≡ g)
+  own q g =
+      cond_both (piece_eq (piece_of h) q) (Some h) None (λ o. o ≡ Some g → (piece_eq (piece_of h) q ≡ true) × (h ≡ g))
+      (λ same is. (same, same_Some h g is)) (λ _ is. absurd (none-some g is))
 
-  pub entered_few : (q : Piece) → number_of entered q < 2 ^ 63
-  entered_few q =
-      cond_both (piece_eq f.piece q) 1 0 (λ n. number_of entered q ≡ n + fragment_count q old.fragments → number_of entered q < 2 ^ 63)
-      (λ _ is. omega (arith, is, few_named q old.fragments is_kept.are_held.spans))
-      (λ _ is. omega (arith, is, few_named q old.fragments is_kept.are_held.spans))
-      (entered_counts q ∙ count-cons q f old.fragments)
+  held-over : IsSpan f → IsTrue (is_ready h) → piece_of h ≡ f.piece → f.from + f.len ≤ byte_count h
+      → AreHeld is_ready piece_of byte_count over
+  held-over span ready of_f lies = record {
+    spans = record { each = All-cons IsSpan f [] span (All-nil IsSpan); in_order = AllPairs-one IsAhead f };
+    named = λ q. found (piece_eq (piece_of h) q) ∙ ap (λ (p : Piece). piece_eq p q) of_f ∙ sym (or-false (piece_eq f.piece q));
+    piece = λ q g is. let this = own q g is in ap piece_of (sym this.1) ∙ same_piece (piece_of h) q this.0;
+    ready = λ q g is. subst (λ x. IsTrue (is_ready x)) (own q g is).1 ready;
+    within = All-cons (LiesIn byte_count over.hold_of) f [] (λ g is. subst (λ x. f.from + f.len ≤ byte_count x) (own f.piece g is).1 lies)
+        (All-nil (LiesIn byte_count over.hold_of));
+  }
+    where
+      found : (b : Bool) → is_some (if b then Some h else None) ≡ b
+      found true = refl
+      found false = refl
 
-  hold_here : (q : Piece) → piece_eq f.piece q ≡ true → hold_of entered q ≡ Some h
-  hold_here q same = entered_holds q ∙ cond-true _ (Some h) (hold_of old.pieces q) (ap (λ (p : Piece). piece_eq p q) of_f ∙ same)
+  -- a table in which its piece is entered, with the number 1
+  pub merged-one : IsKept is_ready piece_of byte_count old → IsSpan f → IsTrue (is_ready h) → piece_of h ≡ f.piece
+      → f.from + f.len ≤ byte_count h → hold_of old.pieces f.piece ≡ None
+      → ((q : Piece) → number_of entered q ≡ cond (piece_eq (piece_of h) q) 1 (number_of old.pieces q))
+      → ((q : Piece) → hold_of entered q ≡ cond (piece_eq (piece_of h) q) (Some h) (hold_of old.pieces q))
+      → AreMerged is_ready piece_of byte_count old over entered
+  merged-one is_kept span ready of_f lies new numbers holds = record {
+    is_kept = is_kept;
+    over_held = held-over span ready of_f lies;
+    apart = λ q. cond_both (piece_eq (piece_of h) q) (Some h) None (λ o. is_some o ≡ true → hold_of old.pieces q ≡ None)
+        (λ same _. unheld q same) (λ _ some. absurd (false≢true some));
+    holds = λ q. holds q ∙ either (piece_eq (piece_of h) q) (hold_of old.pieces q);
+    numbers = λ q.
+        let one = count-one q f in
+        let same : naming q f ≡ cond (piece_eq (piece_of h) q) 1 0 = ap (λ (p : Piece). cond {A = ℕ} (piece_eq p q) 1 0) (sym of_f) in
+        elim (cases_Bool (piece_eq (piece_of h) q)) [
+          | inl this ↦
+              let unnamed = named_none q old.fragments (sym (is_kept.are_held.named q) ∙ ap is_some (unheld q this)) in
+              omega (
+                arith,
+                numbers q,
+                cond-true _ 1 (number_of old.pieces q) this,
+                is_kept.numbers q,
+                unnamed,
+                one,
+                same,
+                cond-true {A = ℕ} (piece_eq (piece_of h) q) 1 0 this,
+              )
+          | inr other ↦ omega (
+            arith,
+            numbers q,
+            cond-false _ 1 (number_of old.pieces q) other,
+            one,
+            same,
+            cond-false {A = ℕ} (piece_eq (piece_of h) q) 1 0 other,
+          )
+        ];
+  }
+    where
+      unheld : (q : Piece) → piece_eq (piece_of h) q ≡ true → hold_of old.pieces q ≡ None
+      unheld q same = ap (hold_of old.pieces) (sym (sym of_f ∙ same_piece (piece_of h) q same)) ∙ new
 
-  hold_there : (q : Piece) → piece_eq f.piece q ≡ false → hold_of entered q ≡ hold_of old.pieces q
-  hold_there q other = entered_holds q ∙ cond-false _ (Some h) (hold_of old.pieces q) (ap (λ (p : Piece). piece_eq p q) of_f ∙ other)
+      either : (b : Bool) (o : Option H) → cond b (Some h) o ≡ option_or (if b then Some h else None) o
+      either true o = refl
+      either false o = refl
 
-  have_entered : HaveHolds byte_count (hold_of entered) (put_fragment f old.fragments)
-  have_entered =
-      HaveHolds-put byte_count (hold_of entered) f old.fragments
-      (HaveHolds-more byte_count (hold_of old.pieces) (hold_of entered) old.fragments
-      (HaveHolds-kept byte_count is_ready piece_of old is_kept) (λ q some. elim (cases_Bool (piece_eq f.piece q)) [
-        | inl same ↦ absurd (true≢false (sym some ∙ ap is_some (ap (hold_of old.pieces) (sym (same_piece f.piece q same)) ∙ new)))
-        | inr other ↦ hold_there q other
-      ]))
-      span (ap is_some (hold_here f.piece (piece_eq-itself f.piece)))
-      (λ g is. subst (λ x. f.from + f.len ≤ byte_count x) (same_Some h g (sym (hold_here f.piece (piece_eq-itself f.piece)) ∙ is)) lies)
-
-  entered_ready : AreReady is_ready (hold_of entered)
-  entered_ready q g is = elim (cases_Bool (piece_eq f.piece q)) [
-    | inl same ↦ subst (λ x. IsTrue (is_ready x)) (same_Some h g (sym (hold_here q same) ∙ is)) ready
-    | inr other ↦ is_kept.are_held.ready q g (sym (hold_there q other) ∙ is)
-  ]
-
-  -- each hold is of its piece then too
-  pub entered_theirs : AreTheirs piece_of (hold_of entered)
-  entered_theirs q g is = elim (cases_Bool (piece_eq f.piece q)) [
-    | inl same ↦ ap piece_of (sym (same_Some h g (sym (hold_here q same) ∙ is))) ∙ of_f ∙ same_piece f.piece q same
-    | inr other ↦ is_kept.are_held.piece q g (sym (hold_there q other) ∙ is)
-  ]
-
-  module _ (laid : Pieces H) (fs : List Fragment)
-      (put : fs ≡ put_fragment f old.fragments)
-      (numbers : (q : Piece) → number_of laid q + fragment_count q (f ∷ old.fragments) ≡ number_of entered q + fragment_count q fs)
-      (thins : Thins entered laid) where
-    have : HaveHolds byte_count (hold_of entered) fs
-    have = subst (HaveHolds byte_count (hold_of entered)) (sym put) have_entered
-
-    laid_numbers : (q : Piece) → number_of laid q ≡ fragment_count q fs
-    laid_numbers q = omega (arith, numbers q, entered_counts q)
-
-    named_here : (q : Piece) → piece_eq f.piece q ≡ true → is_named fs q ≡ true
-    named_here q same = subst (λ us. is_named us q ≡ true) (sym put)
-        (subst (λ p. is_named (put_fragment f old.fragments) p ≡ true) (same_piece f.piece q same)
-        (some_named f.piece (put_fragment f old.fragments) (put_names f old.fragments)))
-
-    pub IsKept-put : IsKept is_ready piece_of byte_count (kept fs laid)
-    IsKept-put = IsKept-laid byte_count is_ready piece_of entered laid fs have entered_ready entered_theirs laid_numbers thins
-
-    pub Puts-laid : Puts f h (held old) (held (kept fs laid))
-    Puts-laid = record {
-      fragments = put;
-      holds = λ q. hold_laid byte_count is_ready piece_of entered laid fs have entered_ready entered_theirs laid_numbers thins q
-          ∙ elim (cases_Bool (piece_eq q f.piece)) [
-            | inl same ↦ cond-true _ (hold_of entered q) None (named_here q (piece_eq-sym q f.piece same))
-                ∙ hold_here q (piece_eq-sym q f.piece same)
-                ∙ sym (cond-true _ (Some h) (cond (is_named fs q) (hold_of old.pieces q) None) same)
-            | inr other ↦ ap (λ o. cond (is_named fs q) o None) (hold_there q (apart q other))
-                ∙ sym (cond-false _ (Some h) (cond (is_named fs q) (hold_of old.pieces q) None) other)
-          ];
-    }
-      where
-        apart : (q : Piece) → piece_eq q f.piece ≡ false → piece_eq f.piece q ≡ false
-        apart q other = elim (cases_Bool (piece_eq f.piece q)) [
-          | inl same ↦ absurd (true≢false (sym (piece_eq-sym f.piece q same) ∙ other))
-          | inr different ↦ different
-        ]
-
-    pub HandsOver-put : (dead after : List H) → ComesOut piece_of (hold_of entered) (hold_of laid) dead after
-        → HandsOver piece_of (held old) (held (kept fs laid)) dead after
-    HandsOver-put = HandsOver-laid byte_count is_ready piece_of entered laid fs have entered_ready entered_theirs laid_numbers thins old
-        (λ q unnamed. elim (cases_Bool (piece_eq f.piece q)) [
-          | inl same ↦ absurd (true≢false (sym (named_here q same) ∙ unnamed))
-          | inr other ↦ hold_there q other
-        ])
+  -- what putting this push gives is what putting the fragment gives
+  pub Puts-one : (was new : Held H) → piece_of h ≡ f.piece → PutsAll over was new → Puts f h was new
+  Puts-one was new of_f puts = record {
+    fragments = puts.fragments;
+    holds = λ q.
+        let others = while_named new.fragments was.hold_of q in
+        let this : piece_eq (piece_of h) q ≡ piece_eq q f.piece = ap (λ (p : Piece). piece_eq p q) of_f ∙ piece_eq-comm f.piece q in
+        puts.holds q ∙ (λ i. if piece_eq-comm f.piece q i || false then if this i then Some h else None else others)
+        ∙ by (piece_eq q f.piece) others;
+  }
+    where
+      by : (b : Bool) (o : Option H) → (if b || false then if b then Some h else None else o) ≡ (if b then Some h else o)
+      by true o = refl
+      by false o = refl

@@ -1,7 +1,7 @@
 -- What a table has of each piece once it has something else of one.
 use Rattle.fs_types.proofs.Common.{◌≡◌, ℕ, ◌<◌, Bool, true, false, cond, is_some, ◌&&◌, List, [], ◌∷◌, length, Option, Some, None, refl}
 use Rattle.fs_types.proofs.Common.{sym, ap, ◌∙◌, subst}
-use Rattle.fs_types.proofs.Common.{Decides-eqb, arith}
+use Rattle.fs_types.proofs.Common.{Decides-eqb, arith, cases_Bool, false_from_ne_true, inl, inr, true≢false}
 use Rattle.std.specs.List.{IsDistinct}
 use Rattle.std.specs.Map.{keys_of, lookup}
 use Rattle.std.proofs.lemmas.Bool.Decides.{Decides-and}
@@ -21,6 +21,13 @@ piece_eq-itself p = (Decides-and _ _ (Decides-eqb p.line p.line) (Decides-eqb p.
 
 pub piece_eq-sym : (p q : Piece) → piece_eq p q ≡ true → piece_eq q p ≡ true
 piece_eq-sym p q is = subst (λ (r : Piece). piece_eq r p ≡ true) (same_piece p q is) (piece_eq-itself p)
+
+-- two pieces are compared alike either way round
+pub piece_eq-comm : (p q : Piece) → piece_eq p q ≡ piece_eq q p
+piece_eq-comm p q = elim (cases_Bool (piece_eq p q)) [
+  | inl same ↦ same ∙ sym (piece_eq-sym p q same)
+  | inr other ↦ other ∙ sym (false_from_ne_true (piece_eq q p) (λ same. true≢false (sym (piece_eq-sym q p same) ∙ other)))
+]
 
 -- the last of two changes of one piece stands
 pub updated_twice : {X : Type 0} (es mid new : List (Piece × X)) (p : Piece) (v w : Option X)

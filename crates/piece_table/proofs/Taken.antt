@@ -12,9 +12,9 @@ use Rattle.fs_types.specs.declared.limits.TheConstants.{LONGEST_FILE}
 use Rattle.span_list.specs.Spans.{IsSpan}
 use Rattle.piece_table.specs.HeldSpans.{AreGone, AreHeld, HandsOver, Held, is_named}
 use Rattle.piece_table.proofs.Counts.{All-named, named_some}
-use Rattle.piece_table.proofs.Entered.{AreApart, apart_sym, is_of}
+use Rattle.piece_table.proofs.Entered.{AreApart, is_of}
 use Rattle.piece_table.proofs.Pushed.{as_held, counts_same, find-All, find-passes, find-some}
-use Rattle.piece_table.proofs.Tables.{piece_eq-itself, same_piece}
+use Rattle.piece_table.proofs.Tables.{piece_eq-comm, piece_eq-itself, same_piece}
 
 module _ {H : Type 0} (piece : H → Piece) where
   -- what is in a list is counted there
@@ -46,7 +46,7 @@ module _ {H : Type 0} (piece : H → Piece) where
     | inl same ↦
         let others : All (λ g. is_of piece q g ≡ false) hs =
         subst (λ p. All (λ g. is_of piece p g ≡ false) hs) (same_piece (piece h) q same)
-        (All-weaker (AreApart piece h) (λ g. is_of piece (piece h) g ≡ false) (λ g. apart_sym (piece h) (piece g)) hs
+        (All-weaker (AreApart piece h) (λ g. is_of piece (piece h) g ≡ false) (λ g apart. piece_eq-comm (piece g) (piece h) ∙ apart) hs
         (AllPairs-head (AreApart piece) h hs apart)) in
         omega (
           arith,

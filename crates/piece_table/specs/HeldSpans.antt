@@ -17,12 +17,15 @@ pub record Held (H : Type 0) : Type 0 where
 abbrev pub is_named : List Fragment → Piece → Bool
 is_named fs q = list_any (λ f. piece_eq f.piece q) fs
 
+-- the hold of a piece while some fragment of these names it
+abbrev pub while_named : {H : Type 0} → List Fragment → (Piece → Option H) → Piece → Option H
+while_named fs hold_of q = if is_named fs q then hold_of q else None
+
 -- one fragment with its hold was put over the others: the piece of the fragment has that hold, and every other piece its own
 -- while some fragment names it
 pub record Puts {H : Type 0} (f : Fragment) (h : H) (old new : Held H) : Type 0 where
   pub fragments : new.fragments ≡ put_fragment f old.fragments
-  pub holds : (q : Piece) → new.hold_of q
-      ≡ (if piece_eq q f.piece then Some h else if is_named new.fragments q then old.hold_of q else None)
+  pub holds : (q : Piece) → new.hold_of q ≡ (if piece_eq q f.piece then Some h else while_named new.fragments old.hold_of q)
 
 -- the fragments of one list put over others in its order
 abbrev pub put_fragments : List Fragment → List Fragment → List Fragment
@@ -32,7 +35,7 @@ put_fragments over fs = fold (λ us f. put_fragment f us) fs over
 pub record PutsAll {H : Type 0} (over old new : Held H) : Type 0 where
   pub fragments : new.fragments ≡ put_fragments over.fragments old.fragments
   pub holds : (q : Piece) → new.hold_of q
-      ≡ (if is_named over.fragments q then over.hold_of q else if is_named new.fragments q then old.hold_of q else None)
+      ≡ (if is_named over.fragments q then over.hold_of q else while_named new.fragments old.hold_of q)
 
 -- these are the holds of the pieces that no fragment names any more, each once
 pub record AreGone {H : Type 0} (piece : H → Piece) (old new : Held H) (gone : List H) : Type 0 where
@@ -100,4 +103,4 @@ pushed piece frags holds = record { fragments = frags; hold_of = λ q. find (λ 
 -- what is left of fragments with holds once the bytes from a place on are dropped: each piece that is named still has its hold
 pub record Cuts {H : Type 0} (size : ℕ) (old new : Held H) : Type 0 where
   pub fragments : new.fragments ≡ cut_fragments size old.fragments
-  pub holds : (q : Piece) → new.hold_of q ≡ (if is_named new.fragments q then old.hold_of q else None)
+  pub holds : (q : Piece) → new.hold_of q ≡ while_named new.fragments old.hold_of q

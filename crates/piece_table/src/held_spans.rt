@@ -1,6 +1,7 @@
 //! Fragments of a file with the holds of the pieces that they name.
 
-ghost use Rattle.std.specs.Prelude.{◌≡◌, ℕ, ◌≤◌, ◌<◌, ◌+◌, ◌^◌, [], None, All, IsSome, IsTrue, ◌↔◌, length, vec_len, vec_capacity};
+ghost use Rattle.std.specs.Prelude.{◌≡◌, ℕ, ◌≤◌, ◌<◌, ◌+◌, ◌^◌, [], None, All, IsTrue, ◌↔◌, length};
+ghost use Rattle.std.specs.Prelude.{vec_len, vec_capacity};
 ghost use Rattle.std.specs.Prelude.{option_copied, IsOk, IfErr, IfOk, OnOk, OnErr};
 ghost use Rattle.std.specs.Borrow.{sem};
 ghost use Rattle.std.specs.Option.{option_copied_mut};
@@ -10,12 +11,13 @@ ghost use Rattle.fs_types.specs.Pieces.{Piece};
 ghost use Rattle.fs_types.specs.declared.limits.TheConstants.{LONGEST_FILE};
 ghost use Rattle.span_list.specs.Spans.{IsSpan, next_fragment};
 ghost use Rattle.piece_table.specs.Ranges.{covered, ends_under};
-ghost use Rattle.piece_table.specs.HeldSpans.{AreHeld, Cuts, HandsOver, HasRoom, IsCounted, Puts, PutsAll, held, pushed};
+ghost use Rattle.piece_table.specs.HeldSpans.{AreHeld, Cuts, HandsOver, HasRoom, IsCounted, Puts};
+ghost use Rattle.piece_table.specs.HeldSpans.{PutsAll, held, pushed};
 
-use crate::laying::{lay, lay_all, release_covered};
+use crate::laying::{lay, release_covered};
 use crate::piece_table::PieceTable;
 use crate::pushing::{enter_push, lay_each, pieces_of};
-use crate::ranges::{count_covered, count_under, count_under_all, list_fragments};
+use crate::ranges::{count_covered, count_under, list_fragments};
 use fs_types::{Frag, Hold, LONGEST_FILE, PieceId, Push, Want};
 use span_list::Spans;
 use std::alloc::Global;
@@ -155,33 +157,6 @@ impl<H: Hold + Drop, S: Spans> HeldSpans<H, S> {
         }
         self.pieces.enter(h)?;
         lay(&mut self.spans, &mut self.pieces, f, dead);
-        Ok(())
-    }
-
-    /// Puts all fragments of another over these, in order, with their holds, and leaves the other
-    /// empty. No piece of the other is here. The holds of pieces that no fragment names any more
-    /// are pushed to `dead`. After want of memory nothing has changed.
-    pub fn put_all(&mut self, over: &mut HeldSpans<H, S>, dead: &mut Vec<H>) -> Result<(), Want>
-        requires are_held { AreHeld H.is_ready H.piece H.bytes (held self.old) }
-        requires over_held { AreHeld H.is_ready H.piece H.bytes (held over.old) }
-        requires new_pieces { (q : Piece)
-            → IsSome ((held over.old).hold_of q) → (held self.old).hold_of q ≡ None }
-        ensures put { OnOk result (PutsAll (held over.old) (held self.old) (held self.new)) }
-        ensures dead { OnOk result (HandsOver H.piece (held self.old) (held self.new)
-            dead.old.items dead.new.items) }
-        ensures emptied { OnOk result ((held over.new).fragments ≡ []) }
-        ensures same { OnErr result (held self.new ≡ held self.old) }
-        ensures same_over { OnErr result (held over.new ≡ held over.old) }
-        ensures same_dead { OnErr result (dead.new.items ≡ dead.old.items) }
-        ensures are_held { AreHeld H.is_ready H.piece H.bytes (held self.new) }
-        ensures over_held { AreHeld H.is_ready H.piece H.bytes (held over.new) }
-    {
-        let count = count_covered(&over.spans, 0, LONGEST_FILE);
-        self.spans.reserve(2 * count)?;
-        dead.reserve(count_under_all(&self.spans, &over.spans))?;
-        self.pieces.append(&mut over.pieces)?;
-        lay_all(&mut self.spans, &mut self.pieces, &over.spans, dead);
-        over.spans.cut(0);
         Ok(())
     }
 

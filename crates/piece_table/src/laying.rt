@@ -1,13 +1,13 @@
 //! Fragments that are put over others, and counted: the holds of pieces that no fragment names any
 //! more come out.
 
-ghost use Rattle.std.specs.Prelude.{◌≡◌, ◌≤◌, ◌<◌, ◌+◌, ◌-◌, ◌*◌, ◌^◌, ◌∷◌, min, length, vec_len, vec_capacity, if◌then◌else◌};
+ghost use Rattle.std.specs.Prelude.{◌≡◌, ◌≤◌, ◌<◌, ◌+◌, ◌^◌, ◌∷◌, min, length, vec_len};
+ghost use Rattle.std.specs.Prelude.{vec_capacity, if◌then◌else◌};
 ghost use Rattle.fs_types.specs.Fragments.{end_of, fragment_count, piece_eq};
 ghost use Rattle.fs_types.specs.Pieces.{Piece};
 ghost use Rattle.span_list.specs.Spans.{IsSpan, put_fragment};
-ghost use Rattle.piece_table.specs.HeldSpans.{put_fragments};
 ghost use Rattle.piece_table.specs.PieceTable.{AreTheirs, hold_of, number_of};
-ghost use Rattle.piece_table.specs.Ranges.{covered, ends_under, reaching};
+ghost use Rattle.piece_table.specs.Ranges.{covered, reaching};
 ghost use Rattle.piece_table.specs.Thinning.{Thins, ComesOut};
 
 use crate::piece_table::PieceTable;
@@ -126,33 +126,4 @@ pub fn lay<H: Hold + Drop, S: Spans>(
     count_reaching(spans, pieces, f.at, end);
     release_covered(spans, pieces, f.at, end, dead);
     spans.put(f).unwrap();
-}
-
-/// Puts all fragments of another list, which are counted already, over the others, in order.
-pub fn lay_all<H: Hold + Drop, S: Spans>(
-    spans: &mut S,
-    pieces: &mut PieceTable<H>,
-    over: &S,
-    dead: &mut Vec<H>,
-)
-    requires spare { 2 * length (S.fragments over.now) ≤ S.spare spans.old }
-    requires counted { (q : Piece) → number_of pieces.old q
-        ≡ fragment_count q (S.fragments spans.old) + fragment_count q (S.fragments over.now) }
-    requires theirs { AreTheirs H.piece (hold_of pieces.old) }
-    requires unheld { (q : Piece) → number_of pieces.old q ≡ 0 → hold_of pieces.old q ≡ None }
-    requires room { ends_under (S.fragments over.now) (S.fragments spans.old) + vec_len dead.old
-        ≤ vec_capacity dead.old }
-    ensures fragments { S.fragments spans.new
-        ≡ put_fragments (S.fragments over.now) (S.fragments spans.old) }
-    ensures numbers { (q : Piece)
-        → number_of pieces.new q ≡ fragment_count q (S.fragments spans.new) }
-    ensures thins { Thins pieces.old pieces.new }
-    ensures out { ComesOut H.piece (hold_of pieces.old) (hold_of pieces.new)
-        dead.old.items dead.new.items }
-{
-    let mut place = 0;
-    while let Some(f) = next_covered(over, place, LONGEST_FILE) {
-        lay(spans, pieces, f, dead);
-        place = f.at + f.len;
-    }
 }

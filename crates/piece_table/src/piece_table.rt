@@ -1,11 +1,12 @@
 //! Pieces that fragments name: how many fragments name each, and its hold.
 
-ghost use Rattle.std.specs.Prelude.{◌≡◌, ◌==◌, ◌&&◌, ◌+◌, ◌-◌, ◌<◌, ◌≤◌, ◌^◌, [], length, vec_len, vec_capacity, is_some, if◌then◌else◌};
-ghost use Rattle.std.specs.Prelude.{option_copied, IsSome, IsTrue, IsOk, IfErr, IfSome, OnOk, OnErr};
+ghost use Rattle.std.specs.Prelude.{◌≡◌, ◌==◌, ◌&&◌, ◌+◌, ◌-◌, ◌<◌, ◌≤◌, ◌^◌, [], length, vec_len};
+ghost use Rattle.std.specs.Prelude.{vec_capacity, is_some, if◌then◌else◌};
+ghost use Rattle.std.specs.Prelude.{option_copied, IsTrue, IsOk, IfErr, OnOk, OnErr};
 ghost use Rattle.fs_types.specs.Fragments.{piece_eq};
 ghost use Rattle.fs_types.specs.Pieces.{Piece};
 ghost use Rattle.std.specs.Borrow.{sem};
-ghost use Rattle.std.specs.Option.{option_copied_mut, option_or};
+ghost use Rattle.std.specs.Option.{option_copied_mut};
 ghost use Rattle.piece_table.specs.Lends.{lends_hold};
 ghost use Rattle.piece_table.specs.PieceTable.{AreCounted, AreTheirs, number_of, hold_of};
 ghost use Rattle.piece_table.specs.Thinning.{ComesOut};
@@ -159,25 +160,6 @@ impl<H: Hold + Drop> PieceTable<H> {
         ensures spare { self.old.spare ≤ self.new.spare }
     {
         self.pieces.reserve(n)?;
-        Ok(())
-    }
-
-    /// Moves the pieces of another table into this one. After want of memory none has moved.
-    pub fn append(&mut self, other: &mut PieceTable<H>) -> Result<(), Want>
-        requires { (q : Piece)
-            → IsSome (hold_of other.old q) → hold_of self.old q ≡ None }
-        ensures numbers { OnOk result ((q : Piece)
-            → number_of self.new q ≡ number_of self.old q + number_of other.old q) }
-        ensures holds { OnOk result ((q : Piece)
-            → hold_of self.new q ≡ option_or (hold_of other.old q) (hold_of self.old q)) }
-        ensures len { OnOk result (length self.new.entries
-            ≤ length self.old.entries + length other.old.entries) }
-        ensures emptied { OnOk result (other.new.entries ≡ []) }
-        ensures same { OnErr result (self.new.entries ≡ self.old.entries) }
-        ensures same_other { OnErr result (other.new.entries ≡ other.old.entries) }
-        ensures counted { AreCounted self.new.entries }
-    {
-        self.pieces.append(&mut other.pieces)?;
         Ok(())
     }
 

@@ -1,7 +1,8 @@
 //! The pieces of a push: they are entered into a table, and counted by the fragments that name
 //! them.
 
-ghost use Rattle.std.specs.Prelude.{◌≡◌, ◌≤◌, ◌<◌, ◌+◌, ◌*◌, ◌^◌, length, map, find, count_by, vec_len, vec_capacity, false, None, All};
+ghost use Rattle.std.specs.Prelude.{◌≡◌, ◌≤◌, ◌<◌, ◌+◌, ◌*◌, ◌^◌, length, map, find, count_by};
+ghost use Rattle.std.specs.Prelude.{vec_len, vec_capacity, false, None, All};
 ghost use Rattle.std.specs.Prelude.{AllPairs, IsTrue, IfOk, OnOk};
 ghost use Rattle.std.specs.Option.{option_or};
 ghost use Rattle.fs_types.specs.Fragments.{AreHeldFragments, fragment_count, held_pieces, piece_eq};

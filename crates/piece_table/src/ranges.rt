@@ -1,7 +1,8 @@
 //! The fragments that lie whole in a range of a file, and how many end in it: walks of those alone;
 //! and a list of all.
 
-ghost use Rattle.std.specs.Prelude.{◌≡◌, ◌≤◌, ◌+◌, ◌∷◌, ◌++◌, [], length, find, vec_len, vec_capacity, IfSome, MatchOption};
+ghost use Rattle.std.specs.Prelude.{◌≡◌, ◌≤◌, ◌+◌, ◌∷◌, ◌++◌, [], length, find, vec_len};
+ghost use Rattle.std.specs.Prelude.{vec_capacity, IfSome, MatchOption};
 ghost use Rattle.fs_types.specs.Fragments.{end_of};
 ghost use Rattle.fs_types.specs.declared.limits.TheConstants.{LONGEST_FILE};
 ghost use Rattle.span_list.specs.Spans.{AreSpans, IsSpan, begins_from};
@@ -92,19 +93,6 @@ pub fn count_under<S: Spans>(spans: &S, over: &[Frag]) -> usize
     let mut count = 0;
     for f in over {
         count += count_ending(spans, f.at, f.at + f.len);
-    }
-    count
-}
-
-/// How many fragments have their last byte in the range of each fragment of another list, in all.
-pub fn count_under_all<S: Spans>(spans: &S, over: &S) -> usize
-    ensures { result ≡ ends_under (S.fragments over.now) (S.fragments spans.now) }
-{
-    let mut count = 0;
-    let mut place = 0;
-    while let Some(f) = next_covered(over, place, LONGEST_FILE) {
-        count += count_ending(spans, f.at, f.at + f.len);
-        place = f.at + f.len;
     }
     count
 }

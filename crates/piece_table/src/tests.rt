@@ -1,5 +1,4 @@
-ghost use Rattle.std.specs.Prelude.{◌≡◌, ◌≤◌, ◌<◌, ◌⊎◌, true, IsSome, IfOk, OnOk};
-ghost use Rattle.fs_types.specs.Pieces.{Piece};
+ghost use Rattle.std.specs.Prelude.{◌≡◌, true, IfOk};
 ghost use Rattle.piece_table.specs.HeldSpans.{AreHeld, held};
 
 mod pushes;
@@ -27,9 +26,7 @@ fn piece(line: u32) -> PieceId
 // Puts the whole of a new piece.
 fn put(kept: &mut Kept, at: u64, len: u32, line: u32, dead: &mut Vec<MemHold>) -> Result<(), Fail>
     requires { AreHeld (λ _. true) (λ h. h.piece) (λ h. h.bytes) (held kept.old) }
-    ensures lines { OnOk result ((q : Piece) → IsSome ((held kept.new).hold_of q)
-        → IsSome ((held kept.old).hold_of q) ⊎ (q.line ≡ line)) }
-    ensures are_held { AreHeld (λ _. true) (λ h. h.piece) (λ h. h.bytes) (held kept.new) }
+    ensures { AreHeld (λ _. true) (λ h. h.piece) (λ h. h.bytes) (held kept.new) }
 {
     let piece = piece(line);
     if len == 0 || at > LONGEST_FILE - u64::from(len) {
@@ -50,25 +47,14 @@ fn put(kept: &mut Kept, at: u64, len: u32, line: u32, dead: &mut Vec<MemHold>) -
     }
 }
 
-// What puts of new pieces give, each as the place, the length and the line, where the lines are
-// within a range. The holds that come out go to `dead`.
-fn held_of(
-    alloc: Global,
-    first: u32,
-    past: u32,
-    puts: &[(u64, u32, u32)],
-    dead: &mut Vec<MemHold>,
-) -> Result<Kept, Fail>
-    ensures lines { IfOk result (λ kept. (q : Piece) → IsSome ((held kept).hold_of q)
-        → (first ≤ q.line) × (q.line < past)) }
-    ensures are_held { IfOk result (λ kept.
+// What puts of new pieces give, each as the place, the length and the line. The holds that come out
+// go to `dead`.
+fn held_of(alloc: Global, puts: &[(u64, u32, u32)], dead: &mut Vec<MemHold>) -> Result<Kept, Fail>
+    ensures { IfOk result (λ kept.
         AreHeld (λ _. true) (λ h. h.piece) (λ h. h.bytes) (held kept)) }
 {
     let mut kept = HeldSpans::new(alloc);
     for (at, len, line) in puts {
-        if *line < first || past <= *line {
-            return Err("a line outside the range".into());
-        }
         put(&mut kept, *at, *len, *line, dead)?;
     }
     Ok(kept)
@@ -202,7 +188,7 @@ fn a_hold_comes_out_with_the_last_byte_of_its_piece(rt: HostRuntime) -> Result<(
         ),
     ] {
         let mut dead = Vec::new(alloc);
-        let kept = held_of(alloc, 0, 10, puts, &mut dead)?;
+        let kept = held_of(alloc, puts, &mut dead)?;
         let found = lines(alloc, &dead)?;
         assert_eq!(rt; found.as_slice(), want, "{name}");
         assert_stand(&rt, name, &kept, marks);
@@ -214,72 +200,10 @@ fn a_hold_comes_out_with_the_last_byte_of_its_piece(rt: HostRuntime) -> Result<(
 }
 
 #[test]
-fn all_of_a_list_is_put_over_another(rt: HostRuntime) -> Result<(), Fail> {
-    let alloc = rt.alloc();
-    for (name, below, above, marks, want) in [
-        (
-            "over an end and a begin",
-            [(0, 10, 1), (10, 10, 2)].as_slice(),
-            [(5, 10, 11), (18, 4, 12)].as_slice(),
-            [
-                (0, 1),
-                (4, 1),
-                (5, 11),
-                (14, 11),
-                (15, 2),
-                (17, 2),
-                (18, 12),
-                (21, 12),
-            ]
-            .as_slice(),
-            [].as_slice(),
-        ),
-        (
-            "over all of one",
-            &[(0, 10, 1), (10, 10, 2)],
-            &[(0, 5, 11), (5, 6, 12)],
-            &[(0, 11), (4, 11), (5, 12), (10, 12), (11, 2), (19, 2)],
-            &[1],
-        ),
-        (
-            "over all",
-            &[(0, 10, 1), (10, 10, 2)],
-            &[(0, 20, 11), (4, 2, 12)],
-            &[(0, 11), (3, 11), (4, 12), (5, 12), (6, 11), (19, 11)],
-            &[1, 2],
-        ),
-        ("into nothing", &[], &[(3, 2, 11)], &[(3, 11), (4, 11)], &[]),
-        ("nothing", &[(3, 2, 1)], &[], &[(3, 1), (4, 1)], &[]),
-    ] {
-        let mut dead = Vec::new(alloc);
-        let mut kept = held_of(alloc, 0, 10, below, &mut dead)?;
-        let mut over = held_of(alloc, 10, 20, above, &mut dead)?;
-        assert!(rt; dead.is_empty(), "{name}");
-        kept.put_all(&mut over, &mut dead)
-            .ok()
-            .ok_or("there is memory")?;
-        assert_stand(&rt, name, &kept, marks);
-        let found = lines(alloc, &dead)?;
-        assert_eq!(rt; found.as_slice(), want, "{name}");
-        assert!(rt; over.is_empty(), "{name}");
-        for line in 11..13 {
-            assert!(rt; over.get(piece(line)).is_none(), "{name}");
-        }
-    }
-    Ok(())
-}
-
-#[test]
 fn all_holds_come_out_of_a_list_that_is_cleared(rt: HostRuntime) -> Result<(), Fail> {
     let alloc = rt.alloc();
     let mut dead = Vec::new(alloc);
-    let mut kept = held_of(
-        alloc,
-        0,
-        10,
-        &[(0, 10, 1), (4, 2, 2), (30, 1, 3)],
-        &mut dead,
-    )?;
+    let mut kept = held_of(alloc, &[(0, 10, 1), (4, 2, 2), (30, 1, 3)], &mut dead)?;
     assert!(rt; !kept.is_empty());
     kept.clear(&mut dead).ok().ok_or("there is memory")?;
     let found = lines(alloc, &dead)?;
@@ -292,8 +216,30 @@ fn all_holds_come_out_of_a_list_that_is_cleared(rt: HostRuntime) -> Result<(), F
     Ok(())
 }
 
+// The example of a table at the head of the crate.
 #[test]
-fn a_table_counts_the_fragments_of_a_piece(rt: HostRuntime) -> Result<(), Fail> {
+fn a_hold_comes_out_with_the_last_fragment_of_its_piece(rt: HostRuntime) -> Result<(), Fail> {
+    let alloc = rt.alloc();
+    let mut pieces = PieceTable::new(alloc);
+    let piece = PieceId {
+        line: LineNo(3),
+        part: 0,
+    };
+    pieces
+        .enter(MemHold::new(piece, 10, None))
+        .ok()
+        .ok_or("there is memory")?;
+    pieces.more(piece);
+    assert!(rt; pieces.less(piece).is_none(), "one is left");
+    assert!(rt; pieces.get(piece).is_some(), "one is left");
+    let dead = pieces.less(piece).ok_or("it was the last")?;
+    assert_eq!(rt; dead.piece(), piece);
+    assert!(rt; pieces.get(piece).is_none(), "none is left");
+    Ok(())
+}
+
+#[test]
+fn pieces_are_entered_into_the_room_that_was_made(rt: HostRuntime) -> Result<(), Fail> {
     let alloc = rt.alloc();
     let mut pieces = PieceTable::new(alloc);
     pieces.reserve(2).ok().ok_or("there is memory")?;
@@ -307,18 +253,6 @@ fn a_table_counts_the_fragments_of_a_piece(rt: HostRuntime) -> Result<(), Fail> 
             .ok_or("there is memory")?;
     }
     assert_eq!(rt; pieces.len(), 2);
-    let mut one = PieceTable::new(alloc);
-    one.enter(MemHold::new(piece(3), 5, None))
-        .ok()
-        .ok_or("there is memory")?;
-    one.more(piece(3));
-    one.more(piece(3));
-    assert!(rt; one.less(piece(3)).is_none(), "two are left");
-    assert!(rt; one.less(piece(3)).is_none(), "one is left");
-    assert!(rt; one.get(piece(3)).is_some(), "one is left");
-    let hold = one.less(piece(3)).ok_or("it was the last")?;
-    assert_eq!(rt; hold.piece(), piece(3));
-    assert!(rt; one.get(piece(3)).is_none(), "none is left");
     Ok(())
 }
 
@@ -333,13 +267,7 @@ fn a_cut_drops_the_holds_of_what_lies_behind_it(rt: HostRuntime) -> Result<(), F
         (31, &[]),
     ] {
         let mut dead = Vec::new(alloc);
-        let mut kept = held_of(
-            alloc,
-            0,
-            10,
-            &[(0, 10, 1), (4, 6, 2), (30, 1, 3)],
-            &mut dead,
-        )?;
+        let mut kept = held_of(alloc, &[(0, 10, 1), (4, 6, 2), (30, 1, 3)], &mut dead)?;
         kept.cut(size, &mut dead).ok().ok_or("there is memory")?;
         let found = lines(alloc, &dead)?;
         assert_eq!(rt; found.as_slice(), want, "at {size}");

@@ -1,4 +1,4 @@
--- What a caller cites of sorted fragments and their marks: the crates above import from here alone.
+-- What a caller cites of sorted fragments and their marks: whatever the proofs of the crates above need is here.
 
 -- the mark at each place after a put, after a cut, and of what stands from a place on; and before and behind the fragments
 pub use Rattle.span_list.proofs.Marks.{mark_at-put, mark_at-cut, mark_at-from, mark_at-ahead, mark_at-past}

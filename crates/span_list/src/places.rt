@@ -1,6 +1,6 @@
 //! A vector of sorted fragments: where a place stands in it, and what is put there.
 
-ghost use Rattle.std.specs.Prelude.{◌≡◌, ◌≤◌, ◌<◌, ◌+◌, ◌-◌, ◌∷◌, ◌++◌, not, take, drop, length};
+ghost use Rattle.std.specs.Prelude.{◌≡◌, ◌≤◌, ◌<◌, ◌+◌, ◌-◌, ◌++◌, not, take, drop, length};
 ghost use Rattle.std.specs.Prelude.{vec_len, vec_capacity, OnSome};
 ghost use Rattle.std.specs.List.{flat_map, position_or_len};
 ghost use Rattle.std.specs.Option.{option_to_list};

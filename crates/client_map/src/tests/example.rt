@@ -22,6 +22,8 @@ fn the_example_at_the_head_of_the_crate(rt: HostRuntime) -> Result<(), Fail> {
     map.add(alloc, &path, 100, 12, holds)
         .ok()
         .ok_or("there is memory")?;
+    let end = map.end(&path);
+    // 112
     // line 6 writes 5 bytes over the last part, and over the last byte of the first
     let mut holds = Vec::new(alloc);
     holds.push(MemHold::new(piece(6, 0), 5, None))?;
@@ -30,12 +32,21 @@ fn the_example_at_the_head_of_the_crate(rt: HostRuntime) -> Result<(), Fail> {
         .ok()
         .ok_or("there is memory")?;
     // `dead` has the hold of part 1 of line 4
+    let held = map
+        .hold(&path, piece(6, 0))
+        .ok_or("line 6 is pending")?
+        .piece();
+    // part 0 of line 6; `map.hold(&path, piece(4, 1))` is none
+    let covered = map.hold(&path, piece(4, 1)).is_none();
     let next = map.next(&path, 100);
     // 7 bytes of part 0 of line 4, at place 100
     let push = map.take_all(&path);
-    // two fragments and two holds, and `map.has(&path)` is false
+    // two fragments and two holds; `map.has(&path)` is false, and `map.end(&path)` is 0
+    assert_eq!(rt; end, 112);
     assert_eq!(rt; dead.len(), 1);
     assert_eq!(rt; dead[0].piece(), piece(4, 1));
+    assert_eq!(rt; held, piece(6, 0));
+    assert!(rt; covered);
     let first = Frag {
         at: 100,
         len: 7,
@@ -46,5 +57,6 @@ fn the_example_at_the_head_of_the_crate(rt: HostRuntime) -> Result<(), Fail> {
     assert_eq!(rt; push.frags.len(), 2);
     assert_eq!(rt; push.holds.len(), 2);
     assert!(rt; !map.has(&path));
+    assert_eq!(rt; map.end(&path), 0);
     Ok(())
 }

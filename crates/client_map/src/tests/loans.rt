@@ -29,22 +29,25 @@ fn writes_after_a_take_are_pending_alone(rt: HostRuntime) -> Result<(), Fail> {
     let alloc = rt.alloc();
     let path = Path::read(alloc, b"/unifyfs/a")?;
     let mut map = fresh(alloc)?;
-    // the write of each round, and what is taken then
-    for (line, off, len, wanted) in [
+    // the write of each round, where it ends, and what is taken then
+    for (line, off, len, end, wanted) in [
         (
             4,
             0,
             16,
+            16,
             [frag(0, 8, 4, 0, 0), frag(8, 8, 4, 1, 0)].as_slice(),
         ),
-        (5, 4, 2, &[frag(4, 2, 5, 0, 0)]),
-        (6, 4, 9, &[frag(4, 8, 6, 0, 0), frag(12, 1, 6, 1, 0)]),
+        (5, 4, 2, 6, &[frag(4, 2, 5, 0, 0)]),
+        (6, 4, 9, 13, &[frag(4, 8, 6, 0, 0), frag(12, 1, 6, 1, 0)]),
     ] {
         let dead = add(alloc, &mut map, &path, line, off, len, None)?;
         assert!(rt; dead.is_empty(), "line {line}");
+        assert_eq!(rt; map.end(&path), end, "line {line}");
         let push = take(&mut map, &path);
         assert_eq!(rt; push.frags.as_slice(), wanted, "line {line}");
         assert_eq!(rt; push.holds.len(), wanted.len(), "line {line}");
+        assert_eq!(rt; map.end(&path), 0, "line {line}");
     }
     Ok(())
 }

@@ -49,9 +49,12 @@ fn gone(alloc: Global, old: &[Cell], new: &[Cell]) -> Result<Vec<(u32, u32)>, Fa
     Ok(all)
 }
 
-// Whether each place has the byte that a look-up gives there.
+// Whether each place has the byte that a look-up gives there, and the last byte ends where the map
+// says.
 fn agrees(map: &Map, path: &Path, cells: &[Cell]) -> bool {
-    cells.iter().enumerate().all(|(i, cell)| {
+    let last = cells.iter().rposition(|cell| cell.is_some());
+    let ends = map.end(path) == last.map_or(0, |i| i as u64 + 1);
+    ends && cells.iter().enumerate().all(|(i, cell)| {
         let at = i as u64;
         match map.next(path, at) {
             Some(f) if f.at <= at => {

@@ -126,7 +126,7 @@ fn a_push_is_put_over_fragments(rt: HostRuntime) -> Result<(), Fail> {
         ),
     ] {
         let mut dead = Vec::new(alloc);
-        let mut kept = held_of(alloc, 0, 10, &[(0, 10, 1), (10, 10, 2)], &mut dead)?;
+        let mut kept = held_of(alloc, &[(0, 10, 1), (10, 10, 2)], &mut dead)?;
         put_push(&mut kept, push_of(alloc, at, lens)?, &mut dead)?;
         assert_stand(&rt, name, &kept, marks);
         let found = lines(alloc, &dead)?;
@@ -140,7 +140,7 @@ fn a_push_is_put_over_fragments(rt: HostRuntime) -> Result<(), Fail> {
 fn a_piece_of_a_push_is_held_for_each_of_its_fragments(rt: HostRuntime) -> Result<(), Fail> {
     let alloc = rt.alloc();
     let mut dead = Vec::new(alloc);
-    let mut kept = held_of(alloc, 0, 10, &[], &mut dead)?;
+    let mut kept = held_of(alloc, &[], &mut dead)?;
     put_push(&mut kept, push_of(alloc, 0, [4, 2, 4])?, &mut dead)?;
     for (at, len, line, want) in [
         (0, 4, 1, [].as_slice()),

@@ -70,7 +70,7 @@ fn change(
 fn the_holds_of_a_plain_array_come_out(rt: HostRuntime) -> Result<(), Fail> {
     let alloc = rt.alloc();
     let mut empty = Vec::new(alloc);
-    let mut kept = held_of(alloc, 0, 1, &[], &mut empty)?;
+    let mut kept = held_of(alloc, &[], &mut empty)?;
     let mut marks: Vec<u32> = vec![in alloc; 0; PLACES as usize]?;
     let mut state = 1;
     for line in 1..2_000u32 {

@@ -15,7 +15,7 @@ fn frag(at: u64, len: u64, line: u32, from: u32) -> Frag {
 fn a_push_has_all_fragments_and_a_hold_of_each_piece(rt: HostRuntime) -> Result<(), Fail> {
     let alloc = rt.alloc();
     let mut dead = Vec::new(alloc);
-    let mut kept = held_of(alloc, 0, 10, &[(20, 10, 1), (24, 2, 2)], &mut dead)?;
+    let mut kept = held_of(alloc, &[(20, 10, 1), (24, 2, 2)], &mut dead)?;
     let push = kept.take_push(alloc).ok().ok_or("there is memory")?;
     let want = [frag(20, 4, 1, 0), frag(24, 2, 2, 0), frag(26, 4, 1, 6)];
     assert_eq!(rt; push.frags.as_slice(), want.as_slice());
@@ -36,7 +36,7 @@ fn a_push_has_all_fragments_and_a_hold_of_each_piece(rt: HostRuntime) -> Result<
 fn a_push_that_was_taken_is_put(rt: HostRuntime) -> Result<(), Fail> {
     let alloc = rt.alloc();
     let mut dead = Vec::new(alloc);
-    let mut kept = held_of(alloc, 0, 10, &[(20, 10, 1), (24, 2, 2)], &mut dead)?;
+    let mut kept = held_of(alloc, &[(20, 10, 1), (24, 2, 2)], &mut dead)?;
     let push = kept.take_push(alloc).ok().ok_or("there is memory")?;
     let mut other: Kept = HeldSpans::new(alloc);
     other

@@ -1,6 +1,6 @@
-use Rattle.fs_types.proofs.Common.{◌≡◌, ◌∙◌, ◌+◌, ◌-◌, ◌*◌, ◌++◌, ◌∷◌, [], List, ap, sym, arith, map, min, map_push, map-range_with_len_more, range_with_len}
-use Rattle.fs_types.specs.Fragments.{HeldPiece, held_pieces}
-use Rattle.fs_types.specs.Pieces.{Fragment, Piece}
+use Rattle.fs_types.proofs.Common.{◌≡◌, ◌∙◌, ◌+◌, ◌-◌, ◌*◌, ◌++◌, ◌∷◌, [], ap, sym, arith, map, min, map_push, map-range_with_len_more, range_with_len}
+use Rattle.fs_types.specs.Fragments.{HeldPiece}
+use Rattle.fs_types.specs.Pieces.{Fragment}
 use Rattle.fs_types.specs.declared.mem_hold.MemHold.{MemHold}
 use Rattle.client_map.specs.Writes.{Write, part_of}
 use Rattle.client_map.proofs.tests.holds_of.Goals as goal

@@ -1,11 +1,8 @@
-use Rattle.fs_types.proofs.Common.{◌∙◌, ◌++◌, List, [], ◌∷◌, ap, sym, take, if◌then◌else◌}
+use Rattle.fs_types.proofs.Common.{◌∙◌, [], ap, sym, take}
 use Rattle.std.proofs.lemmas.List.Sums.{fold_more}
-use Rattle.fs_types.specs.Pieces.{Fragment, Piece}
-use Rattle.owner_book.specs.Lookups.{is_one_of, pieces_named}
+use Rattle.owner_book.specs.Lookups.{pieces_named}
+use Rattle.owner_book.proofs.Named.{with_piece}
 use Rattle.owner_book.proofs.looking.pieces.Goals as goal
-
-abbrev with_piece : List Piece → Fragment → List Piece
-with_piece ps f = if is_one_of ps f.piece then ps else ps ++ f.piece ∷ []
 
 pub loop-f-preserved : goal.loop-f-preserved
 loop-f-preserved c =

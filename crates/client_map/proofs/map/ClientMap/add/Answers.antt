@@ -1,10 +1,10 @@
 -- What is added to a path that has its place is added to the map.
-use Rattle.fs_types.proofs.Common.{◌≡◌, ◌∙◌, ap, sym, subst, All, Some}
+use Rattle.fs_types.proofs.Common.{◌≡◌, ◌+◌, ◌∙◌, ap, max, sym, subst, All, Some}
 use Rattle.std.specs.Option.{option_copied_mut}
 use Rattle.std.proofs.lemmas.Result.{IfOk-weaker, on_err_weaker, on_ok_weaker}
 use Rattle.piece_table.specs.HeldSpans.{AreGone, AreHeld, PutsAll, held, pushed}
 use Rattle.client_map.specs.Calls.{IsAsBefore}
-use Rattle.client_map.specs.Kept.{pending_in}
+use Rattle.client_map.specs.Kept.{pending_end, pending_in}
 use Rattle.client_map.specs.Writes.{MayAdd, Write, parts_of, write_of}
 use Rattle.client_map.proofs.Paths.{Lent, found-there, lent-before, lent-both, lent-here, lent-is, lent-same, map_of}
 use Rattle.client_map.proofs.map.ClientMap.add.Goals as goal
@@ -44,6 +44,8 @@ returns g c =
           subst (λ n. PutsAll (pushed piece (parts_of n w) holds) (pending_in c.args.self.now c.args.p.now) (pending_in new c.args.p.now)) chunk
           (lent-both lent (PutsAll (pushed piece (parts_of c.self.inside.chunk w) holds)) put)) c.add.ensures.put;
       own = on_ok_weaker c.add.result (lent-both lent (λ _ x. All (λ h. x.hold_of (piece h) ≡ Some h) holds)) c.add.ensures.own;
+      end = on_ok_weaker c.add.result
+          (lent-both lent (λ x y. pending_end y.fragments ≡ max (pending_end x.fragments) (c.args.off + c.args.len))) c.add.ensures.end;
       dead = IfOk-weaker c.add.result _ _ (λ dead. lent-both lent (λ x y. AreGone piece x y dead.items)) c.add.ensures.dead;
       given_back = c.add.ensures.given_back;
       same = on_err_weaker c.add.result (lent-same lent) c.add.ensures.same;

@@ -1,8 +1,10 @@
 -- The parts with their holds are a push that may be put.
-use Rattle.fs_types.proofs.Common.{◌∙◌, ap, arith, length}
+use Rattle.fs_types.proofs.Common.{◌∙◌, ap, arith, length, sym}
 use Rattle.piece_table.specs.HeldSpans.{held, put_fragments}
 use Rattle.piece_table.proofs.CallerLemmas.{length-put_fragments, own_holds}
+use Rattle.client_map.specs.Kept.{pending_end}
 use Rattle.client_map.specs.Writes.{Write, parts_of, write_of}
+use Rattle.client_map.proofs.Ends.{pending_end-put}
 use Rattle.client_map.proofs.WriteParts.{length-holds, length-parts, parts-few, parts-spans, push-held}
 use Rattle.client_map.proofs.pending_path.PendingPath.add.Goals as goal
 
@@ -29,21 +31,30 @@ invariant_of-self-in-Ok-put_push g c =
     let old = c.self.inside.held.fragments in
     let room = c.in-Ok-reserve.ensures.room in
     let put = c.in-Ok-put_push.ensures in
+    let over = put.put.fragments ∙ ap (λ fs. put_fragments fs old) frags in
+    let spans = (rw (← c.self.view_is) at c.requires.held).spans in
     record {
-      no_frags = room.no_frags;
-      no_holds = room.no_holds;
-      most = omega (
+      end = omega (
         arith,
-        ap length (put.put.fragments ∙ ap (λ fs. put_fragments fs old) frags),
-        length-put_fragments (parts_of c.args.chunk w) old each (rw (← c.self.view_is) at c.requires.held).spans,
-        length-parts c.args.chunk w c.requires.chunk,
-        count,
-        c.args.holds.ok,
-        c.len-count.ensures,
-        room.most,
+        c.self.invariant.end,
+        pending_end-put c.args.chunk w c.requires.chunk old (held c.put_push.new.self).fragments c.requires.write.has_bytes spans over,
       );
-      frags = omega (arith, c.in-Ok-reserve.ensures.frags);
-      holds = omega (arith, put.count, c.new-dead.ensures.len, c.in-Ok-reserve.ensures.holds, c.len-count.ensures);
+      room = record {
+        no_frags = room.no_frags;
+        no_holds = room.no_holds;
+        most = omega (
+          arith,
+          ap length over,
+          length-put_fragments (parts_of c.args.chunk w) old each spans,
+          length-parts c.args.chunk w c.requires.chunk,
+          count,
+          c.args.holds.ok,
+          c.len-count.ensures,
+          room.most,
+        );
+        frags = omega (arith, c.in-Ok-reserve.ensures.frags);
+        holds = omega (arith, put.count, c.new-dead.ensures.len, c.in-Ok-reserve.ensures.holds, c.len-count.ensures);
+      };
     }
 
 pub invariant_of-self-in-Err-put_push : goal.invariant_of-self-in-Err-put_push
@@ -51,12 +62,23 @@ invariant_of-self-in-Err-put_push g c =
     let room = c.in-Ok-reserve.ensures.room in
     let none = c.in-Err.ensures in
     record {
-      no_frags = room.no_frags;
-      no_holds = room.no_holds;
-      most = omega (arith, room.most, ap (λ x. length x.fragments) none.same);
-      frags = room.frags;
-      holds = omega (arith, room.holds, none.same_count);
+      end = c.self.invariant.end ∙ sym (ap (λ x. pending_end x.fragments) none.same);
+      room = record {
+        no_frags = room.no_frags;
+        no_holds = room.no_holds;
+        most = omega (arith, room.most, ap (λ x. length x.fragments) none.same);
+        frags = room.frags;
+        holds = omega (arith, room.holds, none.same_count);
+      };
     }
+
+pub returns-in-Ok-put_push-clause-end : goal.returns-in-Ok-put_push-clause-end
+returns-in-Ok-put_push-clause-end g c =
+    let w : Write = write_of g.H.Hold.piece c.args.off c.args.len c.args.holds.items in
+    let frags = c.in-Ok.ensures ∙ ap (λ hs. parts_of c.args.chunk (write_of g.H.Hold.piece c.args.off c.args.len hs)) c.deref.ensures.value in
+    pending_end-put c.args.chunk w c.requires.chunk (held c.args.self.now).fragments (held c.put_push.new.self).fragments
+    c.requires.write.has_bytes c.requires.held.spans
+    (rw (← c.self.view_is) (c.in-Ok-put_push.ensures.put.fragments ∙ ap (λ fs. put_fragments fs c.self.inside.held.fragments) frags))
 
 pub returns-in-Ok-put_push-clause-own : goal.returns-in-Ok-put_push-clause-own
 returns-in-Ok-put_push-clause-own g c =

@@ -3,7 +3,7 @@ use Rattle.fs_types.proofs.Common.{◌≡◌, ◌∙◌, ◌+◌, ap, sym, subst
 use Rattle.std.specs.Option.{option_copied_mut}
 use Rattle.owner_book.specs.Calls.{AnswersBy, attr, no_file_refusal, version}
 use Rattle.owner_book.specs.Commits.{HasHolds}
-use Rattle.owner_book.specs.Kept.{held_at}
+use Rattle.owner_book.specs.Kept.{held_at, path_in}
 use Rattle.owner_book.specs.Lookups.{Asks, IsLooked, MayAsk, Pins, parts_in, pieces_named}
 use Rattle.owner_book.proofs.Paths.{changes-itself, found-there, lent-both, lent-here, lent-is, IfOk-map, OnErr-map}
 use Rattle.owner_book.proofs.book.OwnerBook.lookup.Goals as goal
@@ -11,7 +11,7 @@ use Rattle.owner_book.proofs.book.OwnerBook.lookup.Goals as goal
 pub returns-in_default-clause-others : goal.returns-in_default-clause-others
 returns-in_default-clause-others g c =
     changes-itself c.args.self.now c.get_mut.follows.lender-at-none.entries c.args.gfid c.args.p.now
-    (ap (λ m. m.entries) c.get_mut.follows.holds-at-none ∙ c.self.view_is)
+    (λ h q. ap (λ b. path_in b h q) (ap (λ m. m.entries) c.get_mut.follows.holds-at-none ∙ c.self.view_is))
 
 pub lookup-requires : goal.lookup-requires
 lookup-requires g c =

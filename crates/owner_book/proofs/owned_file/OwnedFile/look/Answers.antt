@@ -6,8 +6,8 @@ use Rattle.piece_table.specs.HeldSpans.{AreHeld, held}
 use Rattle.piece_table.specs.PieceTable.{hold_of}
 use Rattle.owner_book.specs.Kept.{file_of}
 use Rattle.owner_book.specs.Lookups.{MayAsk, parts_in, pieces_named}
-use Rattle.owner_book.proofs.Asked.{after-refusal}
-use Rattle.owner_book.proofs.Named.{pairs-apart, parts-found, pieces-held}
+use Rattle.owner_book.proofs.Named.{parts-found, pieces-apart, pieces-held}
+use Rattle.owner_book.proofs.Pinned.{after-refusal}
 use Rattle.owner_book.proofs.owned_file.OwnedFile.look.Goals as goal
 
 pub pin_all-requires-clause-there : goal.pin_all-requires-clause-there
@@ -20,7 +20,7 @@ pin_all-requires-clause-there g c =
 
 pub pin_all-requires-clause-once : goal.pin_all-requires-clause-once
 pin_all-requires-clause-once g c =
-    subst (AllPairs (λ p q. piece_eq p q ≡ false)) (sym c.as_slice.ensures.keys) (pairs-apart c.in_ok-pieces.pieces.keys c.as_slice.ensures.unique)
+    subst (AllPairs (λ p q. piece_eq p q ≡ false)) (sym (c.as_slice.ensures.keys ∙ c.in_ok-pieces.ensures)) (pieces-apart c.deref.result.now)
 
 pub returns-in_err-pin_all-clause-may_ask : goal.returns-in_err-pin_all-clause-may_ask
 returns-in_err-pin_all-clause-may_ask g c =

@@ -1,10 +1,9 @@
-use Rattle.fs_types.proofs.Common.{◌≡◌, ◌∙◌, None, ap, sym, subst}
-use Rattle.piece_table.specs.HeldSpans.{AreGone, Cuts, HandsOver, held, pushed}
+use Rattle.fs_types.proofs.Common.{◌≡◌, ◌∙◌, None, ap}
+use Rattle.piece_table.specs.HeldSpans.{held, pushed}
 use Rattle.piece_table.proofs.CallerLemmas.{of_named_held}
 use Rattle.span_list.proofs.CallerLemmas.{cut_ends}
 use Rattle.owner_book.specs.Commits.{size_after, with_push}
 use Rattle.owner_book.specs.Kept.{file_of}
-use Rattle.owner_book.specs.Truncations.{file_changed}
 use Rattle.owner_book.proofs.Pushes.{laid-is, within-laid}
 use Rattle.owner_book.proofs.Truncations.{handed-both}
 use Rattle.owner_book.proofs.owned_file.OwnedFile.put.Goals as goal
