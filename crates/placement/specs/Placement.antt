@@ -1,5 +1,5 @@
--- Which number names a file, which server owns it, and which server is on a client's node.
-use Rattle.std.specs.Prelude.{ℕ, ◌%◌, List}
+-- Which number names a file, which server owns it, which server is on a client's node, and which servers are whose children.
+use Rattle.std.specs.Prelude.{ℕ, ◌+◌, ◌-◌, ◌*◌, ◌%◌, nat_lt, List, Option, Some, None, if◌then◌else◌}
 use Rattle.md5.specs.Md5.{md5}
 use Rattle.byteorder.specs.Endian.{big_number}
 
@@ -18,3 +18,14 @@ owner gfid servers = gfid % servers
 -- the server on a client's node, one of so many
 abbrev pub node : ℕ → ℕ → ℕ
 node rank servers = rank % servers
+
+-- how far a server is from the root, when the servers are counted from the root on and round
+abbrev pub distance_of : ℕ → ℕ → ℕ → ℕ
+distance_of root servers at = (at + (servers - root)) % servers
+
+-- child i of a server, in the tree of an arity over all servers that has this root: the server that is arity times as far from the
+-- root, and i further, where that is below the number of servers; else there is none
+abbrev pub child_of : ℕ → ℕ → ℕ → ℕ → ℕ → Option ℕ
+child_of root at arity servers i =
+    let distance = arity * distance_of root servers at + i in
+    if nat_lt distance servers then Some ((root + distance) % servers) else None

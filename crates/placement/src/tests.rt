@@ -33,3 +33,33 @@ fn clients_go_round_the_servers(rt: HostRuntime) {
     assert_eq!(rt; node_of(Rank(5), 4), ServerNo(1));
     assert_eq!(rt; node_of(Rank(63), 64), ServerNo(63));
 }
+
+#[test]
+fn five_servers_in_a_binary_tree_whose_root_is_server_3(rt: HostRuntime) {
+    for (at, first, second) in [
+        (3, Some(ServerNo(4)), Some(ServerNo(0))),
+        (4, Some(ServerNo(1)), Some(ServerNo(2))),
+        (0, None, None),
+        (1, None, None),
+        (2, None, None),
+    ] {
+        assert_eq!(rt;
+            children(ServerNo(3), ServerNo(at), 2, 5, 1),
+            first,
+            "of {at}"
+        );
+        assert_eq!(rt;
+            children(ServerNo(3), ServerNo(at), 2, 5, 2),
+            second,
+            "of {at}"
+        );
+    }
+}
+
+#[test]
+fn the_greatest_numbers_of_servers_have_their_children(rt: HostRuntime) {
+    let most = u32::MAX;
+    let last = ServerNo(most - 1);
+    assert_eq!(rt; children(last, last, most, most, 1), Some(ServerNo(0)));
+    assert_eq!(rt; children(last, ServerNo(most - 2), most, most, most), None);
+}
