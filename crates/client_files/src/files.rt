@@ -50,8 +50,10 @@ impl Files {
         }
     }
 
-    // What the client knows of a path at its front.
-    fn at_front(&self, b: &Board, p: &Path) -> Noted
+    /// What the client knows of a path at its front: the greater of the version that it noted and
+    /// that of which all were told, with the attributes of the file there; what it noted, where both
+    /// are the same.
+    pub fn at_front(&self, b: &Board, p: &Path) -> Noted
         ensures { result ≡ at_front self.now b.now p.now }
     {
         self.path(p).noted.later(b.told(p))

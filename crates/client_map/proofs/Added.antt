@@ -15,7 +15,7 @@ use Rattle.client_map.proofs.WriteMarks.{ends-put, marks-put}
 use Rattle.client_map.proofs.WriteParts.{length-holds, length-parts, part-at, parts-unnamed, piece-at, write_of-parts}
 
 -- the holds are of the parts of a write, one each and in order
-pub record ArePartHolds {H : Type 0} (piece : H → Piece) (byte_count : H → ℕ) (chunk : ℕ) (w : Write) (holds : List H) : Type 0 where
+pub record AreOfParts {H : Type 0} (piece : H → Piece) (byte_count : H → ℕ) (chunk : ℕ) (w : Write) (holds : List H) : Type 0 where
   pub some : 0 < chunk
   pub has_bytes : 0 < w.len
   pub pieces : held_pieces piece byte_count holds ≡ pieces_of chunk w
@@ -25,7 +25,7 @@ pub part-holds : {H : Type 0} (piece : H → Piece) (byte_count : H → ℕ) (ch
     → length holds ≡ part_count chunk w
     → ((k : ℕ) (h : H) → slice_get holds k ≡ Some h → piece h ≡ record { line = w.line; part = k })
     → ((k : ℕ) (h : H) → slice_get holds k ≡ Some h → byte_count h ≡ min chunk (w.len - k * chunk))
-    → ArePartHolds piece byte_count chunk w holds
+    → AreOfParts piece byte_count chunk w holds
 part-holds {H} piece byte_count chunk w holds some has_bytes count of_part long = record {
   some = some;
   has_bytes = has_bytes;
@@ -56,7 +56,8 @@ part-holds {H} piece byte_count chunk w holds some has_bytes count of_part long 
         ]
 
 module _ {H : Type 0} {piece : H → Piece} {byte_count : H → ℕ} {chunk : ℕ} {w : Write} {holds : List H}
-    (are : ArePartHolds piece byte_count chunk w holds) (map_chunk : ℕ) (same_chunk : map_chunk ≡ chunk) where
+    (are : AreOfParts piece byte_count chunk w holds) (map_chunk : ℕ) (same_chunk : map_chunk ≡ chunk) where
+  -- the holds tell this write
   is_write : write_of piece w.off w.len holds ≡ w
   is_write = write_of-parts chunk w are.some piece byte_count holds are.pieces are.has_bytes
 
@@ -76,6 +77,7 @@ module _ {H : Type 0} {piece : H → Piece} {byte_count : H → ℕ} {chunk : �
       }))
 
   module _ (old new : Held H) (puts : PutsAll (pushed piece (parts_of map_chunk (write_of piece w.off w.len holds)) holds) old new) where
+    -- its parts were put over the others
     put_over : new.fragments ≡ put_fragments (parts_of chunk w) old.fragments
     put_over = puts.fragments ∙ (λ i. put_fragments (parts_of (same_chunk i) (is_write i)) old.fragments)
 
@@ -88,7 +90,7 @@ module _ {H : Type 0} {piece : H → Piece} {byte_count : H → ℕ} {chunk : �
     pub ends-added : (e : ℕ) → All (λ f. end_of f ≤ e) old.fragments → w.off + w.len ≤ e → All (λ f. end_of f ≤ e) new.fragments
     ends-added = ends-put chunk w are.some old.fragments new.fragments put_over
 
-    -- where none of the other pieces is named
+    -- a piece that none of its parts names keeps its hold while some fragment names it
     hold-other : (q : Piece) → is_named (parts_of chunk w) q ≡ false
         → new.hold_of q ≡ (if is_named new.fragments q then old.hold_of q else None)
     hold-other q unnamed =

@@ -53,7 +53,7 @@ from_book books p old new x is changes = record {
         ∙ sym (ap (λ b. if b then x else path_at books q) differ)
 
 -- the same, where the server and the gfid are found from the path
-pub ChangesPath-at : (books : List (Book PlainHold)) (p : List ℕ) (o g : ℕ) (old new : Book PlainHold) (x : BookPath PlainHold)
+ChangesPath-at : (books : List (Book PlainHold)) (p : List ℕ) (o g : ℕ) (old new : Book PlainHold) (x : BookPath PlainHold)
     → o ≡ home books p → g ≡ gfid p → slice_get books o ≡ Some old → Changes old new g p x → ChangesPath books (set books o new) p x
 ChangesPath-at books p o g old new x at is there changes =
     subst (λ o. ChangesPath books (set books o new) p x) (sym at)
@@ -107,6 +107,18 @@ is-home books p servers o hash d many is at below = record {
   is = is;
   there = slice_get-get_or books o d (omega (arith, below, many));
 }
+
+-- one server's book changes one path that it owns
+module _ {books : List (Book PlainHold)} {p : List ℕ} {o hash : ℕ} {book : Book PlainHold} (here : IsHome books p o hash book)
+    (new : Book PlainHold) where
+  -- what the books have of the path then
+  pub path-then : path_at (set books o new) p ≡ path_in new hash p
+  path-then = path-here (set books o new) p o hash new (here.at ∙ ap (owner (gfid p)) (sym (length-set books o new))) here.is
+      (slice_get-set_same books o new (slice_get_within books o book here.there))
+
+  pub changes-here : ChangesOne book new hash p → ChangesPath books (set books o new) p (path_at (set books o new) p)
+  changes-here changes = subst (ChangesPath books (set books o new) p) (sym path-then)
+      (ChangesPath-at books p o hash book new (path_in new hash p) here.at here.is here.there changes)
 
 -- books of which one is as it was have of each path what they had
 pub paths-same : (books : List (Book PlainHold)) (o : ℕ) (old new : Book PlainHold) → slice_get books o ≡ Some old → IsAsBefore old new

@@ -1,7 +1,7 @@
 -- Which holds go, and which stay, where an event leaves nothing pending: those of the pieces, of the file and of what was pending, of
 -- which no byte is left in the file.
-use Rattle.fs_types.proofs.Common.{◌≡◌, ℕ, ◌||◌, true, false, List, ◌++◌, Some, None, is_some, if◌then◌else◌}
-use Rattle.fs_types.proofs.Common.{All, All-append, All-contains, All-weaker, Contains, Contains-append_left, Contains-append_right}
+use Rattle.fs_types.proofs.Common.{◌≡◌, ℕ, ◌||◌, true, false, List, [], ◌++◌, Some, None, is_some, if◌then◌else◌}
+use Rattle.fs_types.proofs.Common.{All, All-append, All-contains, All-nil, All-weaker, Contains, Contains-append_left, Contains-append_right}
 use Rattle.fs_types.proofs.Common.{sym, ap, ◌∙◌, ◌⊎◌, inl, inr, cases_Bool, cond-true, cond-false, none-some, subst}
 use Rattle.fs_types.proofs.Common.{false_from_ne_true, false≢true, true≢false}
 use Rattle.std.proofs.Math.Bool.{or-false, or-true}
@@ -9,12 +9,12 @@ use Rattle.fs_types.specs.Fragments.{piece_eq}
 use Rattle.slot_plain.specs.Log.{Log}
 use Rattle.fs_script.specs.Vocabulary.{Job, Piece}
 use Rattle.fs_script.proofs.CallerLemmas.{some_of}
-use Rattle.span_list.proofs.CallerLemmas.{AllPairs-append}
-use Rattle.piece_table.specs.HeldSpans.{AreGone, Cuts, Held, PutsAll, held, is_named}
+use Rattle.span_list.proofs.CallerLemmas.{AllPairs-append, AllPairs-nil}
+use Rattle.piece_table.specs.HeldSpans.{AreGone, Cuts, Held, PutsAll, is_named}
 use Rattle.piece_table.proofs.CallerLemmas.{same_piece}
 use Rattle.owner_book.specs.Kept.{held_in}
 use Rattle.owner_book.specs.Truncations.{beside}
-use Rattle.core_machine.specs.declared.client_path.ClientPath.{ClientPath}
+use Rattle.core_machine.specs.ClientPath.{ClientPath}
 use Rattle.core_machine.specs.Kept.{OwnedPath}
 use Rattle.core_machine.specs.declared.plain_hold.PlainHold.{PlainHold}
 use Rattle.core_machine.specs.declared.task.Task.TheVariants.{Idle}
@@ -26,7 +26,7 @@ use Rattle.core_machine.proofs.LetGo.{LeavesKept, stands}
 
 -- what is pending and what the file has, as one
 abbrev pub kept_held : OwnedPath → ClientPath → Held PlainHold
-kept_held x k = beside (held k.pending.held) (held_in x.path.file)
+kept_held x k = beside k.pending.held (held_in x.path.file)
 
 -- an event left nothing pending, and of what was kept these holds went: those of the pieces that the file doesn't name then, while
 -- each that it names has the hold that it had
@@ -38,7 +38,7 @@ pub record Empties (x y : OwnedPath) (k l : ClientPath) (gone : List PlainHold) 
 
 -- ---- what was kept
 
-module _ (x : OwnedPath) (k : ClientPath) (pending : AreHeldPlain (held k.pending.held)) where
+module _ (x : OwnedPath) (k : ClientPath) (pending : AreHeldPlain k.pending.held) where
   -- it is the file's, or what was pending
   either : (q : Piece) (h : PlainHold) → (kept_held x k).hold_of q ≡ Some h
       → (file_hold x.path.file q ≡ Some h) ⊎ (pending_hold k q ≡ Some h)
@@ -112,6 +112,16 @@ module _ (x : OwnedPath) (k : ClientPath) (pending : AreHeldPlain (held k.pendin
       }
 
 -- ---- pending writes beside a file
+
+-- of what stays as it is no hold goes
+pub gone-none : (old : Held PlainHold) → ((q : Piece) → is_some (old.hold_of q) ≡ is_named old.fragments q)
+    → AreGone (λ (h : PlainHold). h.piece) old old []
+gone-none old named = record {
+  held = All-nil (λ (h : PlainHold). old.hold_of h.piece ≡ Some h);
+  unnamed = All-nil (λ (h : PlainHold). is_named old.fragments h.piece ≡ false);
+  each = λ q h held none. absurd (true≢false (sym (ap is_some held) ∙ named q ∙ none));
+  once = AllPairs-nil (λ (g h : PlainHold). piece_eq g.piece h.piece ≡ false);
+}
 
 -- what is gone shows by the pieces that are named yet alone
 pub gone-unnamed : (old new now : Held PlainHold) (gone : List PlainHold) → new.fragments ≡ now.fragments

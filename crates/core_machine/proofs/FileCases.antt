@@ -1,11 +1,9 @@
--- The definitions of files as fragments, of their runs and of a line's parts at single values.
+-- The definitions of files as fragments and of their runs at single values.
 use Rattle.fs_types.proofs.Common.{◌≡◌, ℕ, false, [], ◌∷◌, Some, None, refl}
-use Rattle.fs_script.proofs.CallerLemmas.{five_lines}
 use Rattle.fs_script.specs.Vocabulary.{Fragment, Piece, runs, shown}
 use Rattle.owner_book.specs.Kept.{BookFile}
 use Rattle.owner_book.specs.Lookups.{parts_in}
 use Rattle.core_machine.specs.BookFiles.{marks_of_file}
-use Rattle.core_machine.specs.PendingWrites.{parts_end}
 use Rattle.core_machine.specs.ReadRuns.{joined_from, with_last}
 use Rattle.core_machine.specs.declared.plain_hold.PlainHold.{PlainHold}
 
@@ -50,10 +48,3 @@ stops_at_another_piece = refl
 
 stops_at_a_gap : with_last (frag 0 2 3 4 ∷ []) (frag 3 3 3 6) ≡ frag 0 2 3 4 ∷ frag 3 3 3 6 ∷ []
 stops_at_a_gap = refl
-
--- line 3 writes 5 bytes at place 0, in one part
-no_parts_end : parts_end five_lines 3 0 ≡ 0
-no_parts_end = refl
-
-one_part_ends : parts_end five_lines 3 1 ≡ 5
-one_part_ends = refl

@@ -1,19 +1,16 @@
 -- Fragments in order, joined, are the runs that a read of their marks fetches; and where they stand.
-use Rattle.fs_types.proofs.Common.{◌≡◌, ℕ, zero, suc, ◌+◌, ◌-◌, ◌<◌, ◌≤◌, false, ◌||◌, List, [], ◌∷◌, map, fold, length, get_or}
-use Rattle.fs_types.proofs.Common.{Option, Some, None, All, All-head, All-tail, All-cons, All-weaker, refl, sym, ap, ◌∙◌, subst, arith, inl, inr}
+use Rattle.fs_types.proofs.Common.{◌≡◌, ℕ, zero, suc, ◌+◌, ◌-◌, ◌<◌, ◌≤◌, List, [], ◌∷◌, map, fold, length, get_or}
+use Rattle.fs_types.proofs.Common.{Option, Some, None, All, All-head, All-tail, All-cons, All-weaker, refl, sym, ap, ◌∙◌, arith, inl, inr}
 use Rattle.fs_types.proofs.Common.{cases_lt, cond_both, cond-true, cond-false, and_from, le-leb, lt-ltb, nat_le, nat_lt, none-some, false_from_ne_true}
 use Rattle.fs_types.proofs.Common.{and_parts, ltb-true, get_or_past, get_or-map-range_with_len, length-map-range_with_len}
 use Rattle.std.specs.Prelude.{AllPairs}
-use Rattle.std.proofs.Math.Bool.{or-false, or_assoc, or_self}
 use Rattle.std.proofs.lemmas.List.{ext_get_or}
-use Rattle.fs_types.specs.Fragments.{end_of, piece_eq}
+use Rattle.fs_types.specs.Fragments.{end_of}
 use Rattle.fs_types.specs.FragmentMarks.{is_within, mark_at, mark_within}
-use Rattle.fs_script.specs.Vocabulary.{Fragment, Mark, Piece, goes_on, runs}
-use Rattle.fs_script.proofs.RunsOfMarks.{GoesOn-from}
+use Rattle.fs_script.specs.Vocabulary.{Fragment, Mark, runs}
 use Rattle.span_list.specs.Spans.{AreSpans, IsSpan}
 use Rattle.span_list.proofs.CallerLemmas.{AllPairs-head, AllPairs-tail, IsAhead, mark_at-ahead}
-use Rattle.piece_table.specs.HeldSpans.{is_named}
-use Rattle.core_machine.specs.ReadRuns.{counted_from, joined, joined_from, with_last}
+use Rattle.core_machine.specs.ReadRuns.{counted_from, joined_from, with_last}
 use Rattle.core_machine.proofs.ReadRuns.{IsFirstPart, cells, runs_to, runs_to-blank, runs_to-part}
 
 -- ---- where fragments in order stand, by their marks
@@ -100,30 +97,3 @@ joined-runs marks off fs spans before same =
     ∙ ap (runs_to fs off) (omega arith)
     ∙ ap runs (ext_get_or None (cells fs off (length marks)) marks size (λ k below.
     get_or-map-range_with_len (mark_at fs) off (length marks) k (off + k) None (omega (arith, below, size)) refl ∙ same k))
-
--- ---- the pieces that they name
-
--- a run behind others adds the piece that it names
-with_last-named : (rs : List Fragment) (g : Fragment) (q : Piece) → is_named (with_last rs g) q ≡ (is_named rs q || is_named (g ∷ []) q)
-with_last-named [] g q = refl
-with_last-named (f ∷ []) g q =
-    cond_both (goes_on f g) (joined f g ∷ []) (f ∷ g ∷ []) (λ rs. is_named rs q ≡ (is_named (f ∷ []) q || is_named (g ∷ []) q))
-    (λ on. sym (or_self (is_named (f ∷ []) q))
-    ∙ ap (λ p. is_named (f ∷ []) q || (piece_eq p q || false)) (sym (GoesOn-from f g on).piece))
-    (λ _. sym (or_assoc (piece_eq f.piece q) false (is_named (g ∷ []) q)))
-with_last-named (f ∷ h ∷ rs) g q =
-    ap (λ b. piece_eq f.piece q || b) (with_last-named (h ∷ rs) g q)
-    ∙ sym (or_assoc (piece_eq f.piece q) (is_named (h ∷ rs) q) (is_named (g ∷ []) q))
-
-joined-named : (off : ℕ) (rs parts : List Fragment) (q : Piece)
-    → is_named (fold with_last rs (map (counted_from off) parts)) q ≡ (is_named rs q || is_named parts q)
-joined-named off rs [] q = sym (or-false (is_named rs q))
-joined-named off rs (p ∷ parts) q =
-    joined-named off (with_last rs (counted_from off p)) parts q
-    ∙ ap (λ b. b || is_named parts q) (with_last-named rs (counted_from off p) q
-    ∙ ap (λ b. is_named rs q || b) (or-false (piece_eq p.piece q)))
-    ∙ or_assoc (is_named rs q) (piece_eq p.piece q) (is_named parts q)
-
--- the runs name the pieces that the parts name
-pub runs-named : (off : ℕ) (parts : List Fragment) (q : Piece) → is_named (joined_from off parts) q ≡ is_named parts q
-runs-named off parts q = joined-named off [] parts q

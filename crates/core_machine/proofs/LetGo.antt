@@ -1,5 +1,5 @@
 -- Events that put nothing into slots: the logs follow, where what is kept holds the same pieces, and where some holds were let go of.
-use Rattle.fs_types.proofs.Common.{◌≡◌, ℕ, ◌+◌, ◌==◌, ◌||◌, ◌++◌, [], true, false, List, Some, is_some, cond}
+use Rattle.fs_types.proofs.Common.{◌≡◌, ℕ, ◌+◌, ◌==◌, ◌||◌, true, false, List, Some, is_some, cond}
 use Rattle.fs_types.proofs.Common.{Contains, refl, sym, ap, ◌∙◌, ◌⊎◌, inl, inr, none-some}
 use Rattle.fs_types.proofs.Common.{and_from, eq-eqb}
 use Rattle.std.specs.List.{AllPairs}
@@ -7,7 +7,7 @@ use Rattle.std.proofs.Math.Bool.{or-true}
 use Rattle.fs_types.specs.Fragments.{piece_eq}
 use Rattle.slot_plain.specs.Log.{Log}
 use Rattle.fs_script.specs.Vocabulary.{Job, Piece}
-use Rattle.core_machine.specs.declared.client_path.ClientPath.{ClientPath}
+use Rattle.core_machine.specs.ClientPath.{ClientPath}
 use Rattle.core_machine.specs.Kept.{OwnedPath}
 use Rattle.core_machine.specs.declared.plain_hold.PlainHold.{PlainHold}
 use Rattle.core_machine.specs.declared.task.Task.TheVariants.{Idle}
@@ -60,10 +60,6 @@ in-slots s logs gone held once apart = record {
       and_from (h.rank == r) (h.slot == i) (eq-eqb h.rank r at.0) (eq-eqb h.slot i at.1);
   once = apart;
 }
-
--- what a list of holds that was empty has in the end is what was handed over
-pub all_gone : (before after dead gone : List PlainHold) → before ≡ [] → after ≡ before ++ gone → dead ≡ after → gone ≡ dead
-all_gone before after dead gone none appended same = ap (λ xs. xs ++ gone) (sym none) ∙ sym appended ∙ sym same
 
 -- of what is kept these holds went, and every other piece is kept as before
 pub record LeavesKept (x y : OwnedPath) (k l : ClientPath) (gone : List PlainHold) : Type 0 where

@@ -11,20 +11,16 @@ pub mod TurnCases
 mod OtherClients
 pub mod ReadRuns
 pub mod LastRuns
-pub mod NextParts
 pub mod JoinedParts
 pub mod FoundHolds
 pub mod LookedUp
 pub mod Committed
 pub mod NamedPieces
-pub mod PutParts
-pub mod Gone
 pub mod AddedLines
 pub mod PushedPending
 mod FileCases
 pub mod HeldPieces
 pub mod PlainLists
-pub mod PartMarks
 pub mod Settled
 pub mod LetGo
 pub mod Commits
@@ -39,6 +35,7 @@ pub mod Filled
 pub mod WriteLogs
 pub mod Writes
 pub mod EventsFollow
+pub mod FileEvents
 pub mod EventsEnd
 pub mod SettledSlots
 pub mod PinnedRuns

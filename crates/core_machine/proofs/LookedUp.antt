@@ -62,14 +62,8 @@ module _ (f : BookFile PlainHold) (off len : ℕ) (found : Looked PlainHold) (fi
   -- which is the file's hold of it
   pins-own : All (λ h. f.held.hold_of h.piece ≡ Some h) found.holds.items
   pins-own k d within =
-      let h : PlainHold = get_or found.holds.items k d in
-      let held : All (λ q. IsSome (f.held.hold_of q)) (map (λ (g : PlainHold). g.piece) found.holds.items) =
-      subst (All (λ q. IsSome (f.held.hold_of q))) (sym (pinned-each ∙ ap pieces_named frags))
-      (pieces-held (λ _. true) (λ (g : PlainHold). g.piece) (λ (g : PlainHold). g.bytes) f.held off (off + len) file.are_held) in
-      let there = some_of (f.held.hold_of h.piece)
-      (subst (λ q. IsSome (f.held.hold_of q)) (get_or-map (λ (g : PlainHold). g.piece) found.holds.items k d d.piece within)
-      (held k d.piece (omega (arith, within, length-map found.holds.items (λ (g : PlainHold). g.piece))))) in
-      there.1 ∙ ap Some (sym (like-same there.0 h (pins.each k d within there.0 there.1)))
+      let own = pins.each k d within in
+      own.1 ∙ ap Some (sym (like-same own.0 (let h : PlainHold = get_or found.holds.items k d in h) own.2))
 
   IsFoundIn-pinned : found.attr ≡ attr_in (Some f) → IsFoundIn f off len found
   IsFoundIn-pinned told = record { frags = frags; size = ap (λ a. a.size) told; holds = pinned-each; each = pins-own }

@@ -1,101 +1,31 @@
 -- Pending writes as a push over a file: what it makes of the file, and that it may be committed.
-use Rattle.fs_types.proofs.Common.{◌≡◌, ℕ, zero, suc, ◌+◌, ◌-◌, ◌<◌, ◌≤◌, max, cond, leb, ltb, ◌&&◌, Bool, true, false, not}
-use Rattle.fs_types.proofs.Common.{List, [], ◌∷◌, map, length, get_or, Option, Some, None, is_some}
-use Rattle.fs_types.proofs.Common.{All, AllByRecursion, inl, inr, refl, sym, ap, ◌∙◌, subst}
-use Rattle.fs_types.proofs.Common.{arith, cases_eq, cases_lt, cond_both, and_from, le-leb, lt-ltb, false≢true, if◌then◌else◌}
-use Rattle.fs_types.proofs.Common.{All-nil, All-cons, All-head, All-tail, All-weaker, length-map-range_with_len}
-use Rattle.fs_types.specs.FragmentMarks.{mark_at, marks_of_fragments}
-use Rattle.fs_types.specs.Fragments.{HeldPiece, end_of, fragment_count}
+use Rattle.fs_types.proofs.Common.{◌≡◌, ℕ, ◌<◌, max, Bool, true, false, not, List, [], ◌∷◌, map, length, get_or, Option, Some, None, is_some}
+use Rattle.fs_types.proofs.Common.{All, Contains, nil_from_length}
+use Rattle.fs_types.proofs.Common.{refl, sym, ap, ◌∙◌, subst, arith, if◌then◌else◌, All-nil, All-cons, All-head, All-tail, All-weaker}
+use Rattle.std.proofs.lemmas.List.Elements.{All-contains_itself}
+use Rattle.fs_types.specs.FragmentMarks.{marks_of_fragments}
+use Rattle.fs_types.specs.Fragments.{HeldPiece, end_of, fragment_count, piece_eq}
 use Rattle.fs_types.specs.Pieces.{Fragment}
 use Rattle.fs_types.specs.declared.push.Push.{Push}
-use Rattle.fs_script.specs.Vocabulary.{File, Job, Mark, Piece, mark_of, marks_in, marks_put, offset, payload, put_lines}
-use Rattle.fs_script.proofs.MarksGrow.{get_or-line_put}
-use Rattle.span_list.proofs.CallerLemmas.{get_or-marks, mark_at-past}
-use Rattle.piece_table.specs.HeldSpans.{PutsAll, held, is_named, put_fragments, pushed}
+use Rattle.fs_script.specs.Vocabulary.{File, Job, Mark, Piece, marks_in, put_lines}
+use Rattle.piece_table.specs.HeldSpans.{AreGone, Held, PutsAll, is_named, put_fragments, pushed}
 use Rattle.piece_table.proofs.CallerLemmas.{some_named}
+use Rattle.piece_table.proofs.Pushed.{find-All, find-own, holds_apart}
+use Rattle.client_map.specs.Kept.{pending_end}
 use Rattle.owner_book.specs.Commits.{MayCommit, size_after, with_push}
 use Rattle.owner_book.specs.Kept.{BookFile, BookPath, held_in}
 use Rattle.core_machine.specs.BookFiles.{IsFile, marks_of_file}
-use Rattle.core_machine.specs.PendingWrites.{ArePending, BringsBytes, IsPushOf}
+use Rattle.core_machine.specs.PendingWrites.{ArePending, IsPushOf}
 use Rattle.core_machine.specs.PlainHolds.{AreHeldPlain}
-use Rattle.core_machine.specs.declared.pending.Pending.{Pending}
+use Rattle.core_machine.specs.ClientPath.{Pending}
 use Rattle.core_machine.specs.declared.plain_hold.PlainHold.{PlainHold}
-use Rattle.core_machine.proofs.AddedLines.{length-line_put}
 use Rattle.core_machine.proofs.Committed.{EndBy, ends-committed, marks-committed}
-
--- ---- where pending writes end
-
--- a list of marks has one at its last place
-abbrev EndsMarked : List (Option Mark) → Type 0
-EndsMarked marks = (k : ℕ) → length marks ≡ k + 1 → is_some (get_or marks k None) ≡ true
-
-ends-line : (s : Job) (n : ℕ) (marks : List (Option Mark)) → BringsBytes s n → EndsMarked marks
-    → EndsMarked (put_lines s (marks_in s) (n ∷ []) marks)
-ends-line s n marks brings ends k last =
-    let off : ℕ = offset s n in
-    let size : ℕ = length (payload s n) in
-    let own : Option Mark = Some (mark_of s.shape.chunk n (k - off)) in
-    let long = length-line_put s n brings marks in
-    let some = brings.some in
-    ap is_some (get_or-line_put s n marks k brings.end) ∙ elim (cases_eq (length marks) (k + 1)) [
-      | inl same ↦
-          cond_both (leb off k && ltb k (off + size)) own (get_or marks k None) (λ o. is_some o ≡ true) (λ _. refl) (λ _. ends k same)
-      | inr other ↦
-          let below : k < off + size = omega (arith, long, last, other) in
-          let from : off ≤ k = omega (arith, long, last, other, some) in
-          ap (λ b. is_some (cond b own (get_or marks k None))) (and_from (leb off k) (ltb k (off + size)) (le-leb off k from)
-          (lt-ltb k (off + size) below))
-    ]
-
-ends-lines : (s : Job) (ns : List ℕ) (marks : List (Option Mark)) → AllByRecursion (BringsBytes s) ns → EndsMarked marks
-    → EndsMarked (put_lines s (marks_in s) ns marks)
-ends-lines s [] marks brings ends = ends
-ends-lines s (n ∷ ns) marks brings ends =
-    ends-lines s ns (put_lines s (marks_in s) (n ∷ []) marks) brings.1 (ends-line s n marks brings.0 ends)
-
-ends-put : (s : Job) (ns : List ℕ) → AllByRecursion (BringsBytes s) ns → EndsMarked (marks_put s ns)
-ends-put s ns brings = ends-lines s ns [] brings (λ k none. absurd (omega (arith, none)))
 
 -- ---- how long a file is once fragments were put into it
 
-least-after : (fs : List Fragment) (size : ℕ) → size ≤ size_after size fs
-least-after [] size = omega arith
-least-after (f ∷ fs) size = let rest = least-after fs (max size (end_of f)) in omega (arith, rest)
-
-ends-after : (fs : List Fragment) (size : ℕ) → EndBy (size_after size fs) fs
-ends-after [] size = All-nil (λ f. end_of f ≤ size)
-ends-after (f ∷ fs) size =
-    let here = least-after fs (max size (end_of f)) in
-    All-cons (λ g. end_of g ≤ size_after (max size (end_of f)) fs) f fs (omega (arith, here)) (ends-after fs (max size (end_of f)))
-
-most-after : (fs : List Fragment) (size e : ℕ) → EndBy e fs → size_after size fs ≤ max size e
-most-after [] size e ends = omega arith
-most-after (f ∷ fs) size e ends =
-    let here = All-head (λ g. end_of g ≤ e) f fs ends in
-    let rest = most-after fs (max size (end_of f)) e (All-tail (λ g. end_of g ≤ e) f fs ends) in
-    omega (arith, here, rest)
-
--- fragments with a mark at their last place reach it
-reaches : (fs : List Fragment) (size e : ℕ) → EndBy e fs → EndsMarked (marks_of_fragments fs e) → e ≤ size_after size fs
-reaches fs size zero ends marked = omega arith
-reaches fs size (suc k) ends marked = elim (cases_lt k (size_after size fs)) [
-  | inl below ↦ omega (arith, below)
-  | inr past ↦
-      let none = mark_at-past fs k (All-weaker (λ f. end_of f ≤ size_after size fs) (λ f. end_of f ≤ k) (λ f end. omega (arith, end, past)) fs
-      (ends-after fs size)) in
-      let long = length-map-range_with_len (mark_at fs) 0 (suc k) in
-      let some = marked k (omega (arith, long)) in
-      absurd (false≢true (sym (ap is_some (get_or-marks fs (suc k) k ends ∙ none)) ∙ some))
-]
-
-size-after : (s : Job) (q : Pending) (size : ℕ) → ArePending s q → size_after size q.held.fragments ≡ max size q.end
-size-after s q size pending =
-    let marked : EndsMarked (marks_of_fragments q.held.fragments q.end) = subst EndsMarked (sym pending.marks)
-    (ends-put s q.lines.items pending.lines) in
-    let least = least-after q.held.fragments size in
-    let most = most-after q.held.fragments size q.end pending.within in
-    let reached = reaches q.held.fragments size q.end pending.within marked in
-    omega (arith, least, most, reached)
+size-after : (fs : List Fragment) (size : ℕ) → size_after size fs ≡ max size (pending_end fs)
+size-after [] size = omega arith
+size-after (f ∷ fs) size = let rest = size-after fs (max size (end_of f)) in omega (arith, rest)
 
 -- ---- what the push makes of a file
 
@@ -112,19 +42,19 @@ abbrev pub with_pushed : Push PlainHold → BookFile PlainHold → BookFile Plai
 with_pushed push f = with_push (λ h. h.piece) push f
 
 -- what is pushed is what was pending
-pub pushed-is : (q : Pending) (push : Push PlainHold) → IsPushOf (held q.held) push
-    → pushed (λ (h : PlainHold). h.piece) push.frags.items push.holds.items ≡ held q.held
+pub pushed-is : (q : Pending) (push : Push PlainHold) → IsPushOf q.held push
+    → pushed (λ (h : PlainHold). h.piece) push.frags.items push.holds.items ≡ q.held
 pushed-is q push is = λ i. record { fragments = is.fragments i; hold_of = λ p. is.holds p i }
 
-module _ (s : Job) (q : Pending) (push : Push PlainHold) (f : BookFile PlainHold) (pending : ArePending s q) (file : IsFile f)
-    (is : IsPushOf (held q.held) push) where
+module _ (s : Job) (q : Pending) (push : Push PlainHold) (f : BookFile PlainHold) (pending : ArePending s q)
+    (end : q.end ≡ pending_end q.held.fragments) (file : IsFile f) (is : IsPushOf q.held push) where
   length-pushed : (with_pushed push f).size ≡ max f.size q.end
-  length-pushed = ap (size_after f.size) is.fragments ∙ size-after s q f.size pending
+  length-pushed = ap (size_after f.size) is.fragments ∙ size-after q.held.fragments f.size ∙ ap (max f.size) (sym end)
 
-  pub marks-pushed : marks_of_file (with_pushed push f) ≡ put_lines s (marks_in s) q.lines.items (marks_of_file f)
+  pub marks-pushed : marks_of_file (with_pushed push f) ≡ put_lines s (marks_in s) q.lines (marks_of_file f)
   marks-pushed =
       (λ i. marks_of_fragments (put_fragments (is.fragments i) f.held.fragments) (length-pushed i))
-      ∙ marks-committed s q.lines.items q.held.fragments f.held.fragments q.end f.size pending.are_held.spans pending.marks pending.within
+      ∙ marks-committed s q.lines q.held.fragments f.held.fragments q.end f.size pending.are_held.spans pending.marks pending.within
       file.within
 
   pub within-pushed : EndBy (with_pushed push f).size (with_pushed push f).held.fragments
@@ -141,9 +71,26 @@ module _ (s : Job) (q : Pending) (push : Push PlainHold) (f : BookFile PlainHold
   }
 
   -- its fragments are over the file's, each with its hold
-  pub puts-pushed : PutsAll (held q.held) f.held (with_pushed push f).held
+  pub puts-pushed : PutsAll q.held f.held (with_pushed push f).held
   puts-pushed = subst (λ over. PutsAll over f.held (with_pushed push f).held) (pushed-is q push is)
       (record { fragments = refl; holds = λ p. refl })
+
+-- ---- its holds
+
+-- where nothing is left of what was pending, they went, each once
+pub gone-pushed : (x y : Held PlainHold) (push : Push PlainHold) → IsPushOf x push → length y.fragments ≡ 0
+    → AreGone (λ (h : PlainHold). h.piece) x y push.holds.items
+gone-pushed x y push is none =
+    let holds = push.holds.items in
+    let frags = push.frags.items in
+    record {
+      held = λ k d within. sym (is.holds (get_or holds k d).piece)
+          ∙ find-own (λ (h : PlainHold). h.piece) (λ h. h.bytes) (λ _. true) frags holds is.well_formed k d within;
+      unnamed = λ k d within. ap (λ fs. is_named fs (get_or holds k d).piece) (nil_from_length y.fragments none);
+      each = λ q h had other. find-All (Contains holds) (λ (g : PlainHold). piece_eq g.piece q) holds h (All-contains_itself holds)
+          (is.holds q ∙ had);
+      once = holds_apart (λ (h : PlainHold). h.piece) (λ h. h.bytes) (λ _. true) frags holds is.well_formed;
+    }
 
 -- ---- that it may be committed
 
@@ -152,8 +99,8 @@ All-unmapped P f [] all = All-nil (λ x. P (f x))
 All-unmapped P f (x ∷ xs) all =
     All-cons (λ y. P (f y)) x xs (All-head P (f x) (map f xs) all) (All-unmapped P f xs (All-tail P (f x) (map f xs) all))
 
-pub may-commit : (s : Job) (q : Pending) (push : Push PlainHold) (x : BookPath PlainHold) → ArePending s q → IsPushOf (held q.held) push
-    → ((p : Piece) → is_some ((held q.held).hold_of p) ≡ true → (held_in x.file).hold_of p ≡ None)
+pub may-commit : (s : Job) (q : Pending) (push : Push PlainHold) (x : BookPath PlainHold) → ArePending s q → IsPushOf q.held push
+    → ((p : Piece) → is_some (q.held.hold_of p) ≡ true → (held_in x.file).hold_of p ≡ None)
     → MayCommit (λ (h : PlainHold). true) (λ h. h.piece) (λ h. h.bytes) push x
 may-commit s q push x pending is apart = record {
   well_formed = is.well_formed;

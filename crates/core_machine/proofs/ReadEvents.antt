@@ -1,74 +1,46 @@
 -- The events of a read, as the machine has them over what is kept.
-use Rattle.fs_types.proofs.Common.{◌≡◌, ℕ, ◌+◌, ◌<◌, ◌≤◌, ◌∙◌, List, Option, Some, None, Bool, true, false, arith, sym, ap, refl, subst, max}
-use Rattle.fs_types.proofs.Common.{if◌then◌else◌, length, is_some, cond_both, cond-true, cond-false}
-use Rattle.fs_types.proofs.Common.{lt-ltb, le-ltb, nat_le, nat_lt, nat_tests, or_left, none-some}
+use Rattle.fs_types.proofs.Common.{◌≡◌, ℕ, ◌+◌, ◌<◌, ◌≤◌, ◌∙◌, List, Option, Some, None, Bool, true, false, sym, ap, refl, subst}
+use Rattle.fs_types.proofs.Common.{if◌then◌else◌, length, cond-true, cond-false, lt-ltb, le-ltb, nat_lt, none-some}
 use Rattle.piece_table.specs.PieceTable.{Pieces, hold_of}
 use Rattle.std.proofs.lemmas.List.{take_all}
 use Rattle.fs_types.specs.Pieces.{Fragment}
 use Rattle.slot_plain.specs.Log.{Log}
-use Rattle.fs_script.specs.Vocabulary.{Answer, Job, Piece, Range, at_least, marks_in, range_of, runs, shown, version_of, view_of}
+use Rattle.fs_script.specs.Vocabulary.{Answer, Job, Piece, Range, marks_in, range_of, runs, shown, view_of}
 use Rattle.fs_script.specs.declared.line.Op.TheVariants as ops
 use Rattle.fs_types.specs.declared.answer.Answer.TheVariants as answers
+use Rattle.owner_book.specs.Calls.{version}
 use Rattle.owner_book.specs.Kept.{BookFile}
-use Rattle.core_machine.specs.declared.noted.Noted.{Noted}
-use Rattle.core_machine.specs.declared.client_path.ClientPath.{ClientPath}
+use Rattle.client_files.specs.Noted.{later_of}
+use Rattle.client_files.specs.declared.noted.Noted.{Noted}
+use Rattle.core_machine.specs.ClientPath.{ClientPath}
 use Rattle.core_machine.specs.Kept.{OwnedPath}
 use Rattle.core_machine.specs.declared.plain_hold.PlainHold.{PlainHold}
 use Rattle.core_machine.specs.declared.task.ReadTask.{ReadTask}
 use Rattle.core_machine.specs.declared.task.Task.{Task}
 use Rattle.core_machine.specs.declared.task.Task.TheVariants.{Idle, Read}
 use Rattle.core_machine.specs.Doing.{Reading, reading}
-use Rattle.core_machine.specs.Event.{Event, Known, PathNow, answered, goes_on_reading}
+use Rattle.core_machine.specs.Event.{Event, PathNow, answered, goes_on_reading}
 use Rattle.core_machine.specs.Events.Read.{lookup_over, shows}
 use Rattle.core_machine.specs.Fetching.{HasBytes}
-use Rattle.core_machine.specs.Follows.{EventFollows, EventKept, Follows, Knows, KnowsLookedUp, KeptStand, LookedUpWithin, free_in, kept_event}
+use Rattle.core_machine.specs.Follows.{EventFollows, EventKept, KeptStand, free_in, kept_event}
 use Rattle.core_machine.specs.HoldsKept.{holds_kept, keeps}
-use Rattle.core_machine.specs.Kept.{file_hold, file_marks, kept_now, known_from, later_of, pending_lines}
+use Rattle.core_machine.specs.Kept.{file_hold, file_marks, kept_now, noted_now, pending_lines}
 use Rattle.core_machine.specs.Logs.{AreHeldSlots, HoldsStand, stored_part}
 use Rattle.core_machine.specs.Pins.{HaveSlots, no_count, pin_count}
 use Rattle.core_machine.specs.Reads.{BeginsRead, marks_seen}
 use Rattle.core_machine.specs.Settling.{Settles}
 use Rattle.core_machine.specs.Task.{IsReadTask, doing_of, marks_of_task, reading_of}
+use Rattle.core_machine.proofs.EventsFollow.{Notes, follows-noted, notes-later, notes-none, notes-now}
 use Rattle.core_machine.proofs.FetchedBytes.{HasBytes-whole}
 use Rattle.core_machine.proofs.SettledSlots.{Settles-agree, Settles-more, Settles-same}
 
--- ---- what is noted
-
--- what is noted of an answer's version is the later of both, and says what is so of it
-pub record Notes (x : OwnedPath) (k : ClientPath) (t : Task) (a : Answer) (m : Noted) : Type 0 where
-  pub version : m.version ≡ at_least k.noted.version (version_of a)
-  pub within : k.noted.version ≤ length x.path.journal → x.board.told.version ≤ length x.path.journal
-      → LookedUpWithin t (length x.path.journal) → m.version ≤ length x.path.journal
-  pub known : (at : ℕ → Known) → Knows at x k → KnowsLookedUp at t → known_from m ≡ at m.version
-
-later-version : (a b : Noted) → (later_of a b).version ≡ max b.version a.version
-later-version a b = grind (arith, nat_tests)
-
-module _ (x : OwnedPath) (k : ClientPath) where
-  pub Notes-closed : Notes x k Idle answers.BadF k.noted
-  Notes-closed = record { version = refl; within = λ noted board looked_up. noted; known = λ at knows looked_up. knows.noted }
-
-  -- the version now, at which there is no file
-  pub Notes-absent : x.path.file ≡ None → Notes x k Idle (answers.NoEnt (length x.path.journal))
-      (later_of (record { version = length x.path.journal; exists = false }) k.noted)
-  Notes-absent absent = let now : Noted = record { version = length x.path.journal; exists = false } in record {
-    version = later-version now k.noted;
-    within = λ noted board looked_up. cond_both (nat_le k.noted.version now.version) now k.noted (λ m. m.version ≤ length x.path.journal)
-        (λ _. omega arith) (λ _. noted);
-    known = λ at knows looked_up. cond_both (nat_le k.noted.version now.version) now k.noted (λ m. known_from m ≡ at m.version)
-        (λ _. rw absent at knows.now) (λ _. knows.noted);
-  }
-
-  -- the version that a read looked up
-  pub Notes-shown : (t : ReadTask) (bytes : List ℕ) → Notes x k (Read t) (shows t.version bytes)
-      (later_of (record { version = t.version; exists = true }) k.noted)
-  Notes-shown t bytes = let seen : Noted = record { version = t.version; exists = true } in record {
-    version = later-version seen k.noted;
-    within = λ noted board looked_up. cond_both (nat_le k.noted.version seen.version) seen k.noted (λ m. m.version ≤ length x.path.journal)
-        (λ _. looked_up) (λ _. noted);
-    known = λ at knows looked_up. cond_both (nat_le k.noted.version seen.version) seen k.noted (λ m. known_from m ≡ at m.version)
-        (λ _. looked_up) (λ _. knows.noted);
-  }
+-- what is noted at the end of a read: the version that it looked up
+notes-shown : (s : Job) (x : OwnedPath) (k : ClientPath) (t : ReadTask) (bytes : List ℕ) → IsReadTask s t
+    → Notes x k (Read t) (shows t.version bytes) (later_of k.noted (record { version = t.version; attr = t.attr }))
+notes-shown s x k t bytes task =
+    notes-later x k (Read t) (shows t.version bytes) (let m : Noted = record { version = t.version; attr = t.attr } in m) refl
+    (λ seen told looked. looked)
+    (λ at knows looked. (λ i. record { exists = task.there i; frozen = task.unfrozen i }) ∙ looked)
 
 -- ---- an event of a read, by what the machine's event is
 
@@ -83,25 +55,13 @@ module _ (s : Job) (n r off len : ℕ) (own : Bool) (x : OwnedPath) (k : ClientP
       → EventFollows s n (ops.Read off len own) r (kept x k t old) (kept x (record k { noted = m }) Idle new) (Some a)
   ends a m is notes settles stand =
       let event : Event = kept_event s x k (free_in old r) t (ops.Read off len own) in
-      let l : ClientPath = record k { noted = m } in
-      let follows : Follows s n (ops.Read off len own) t (answered a) x k x l a = record {
-        journal = refl;
-        marks = refl;
-        told = refl;
-        opened = refl;
-        pending = refl;
-        version = notes.version;
-        within = notes.within;
-        known = λ at knows looked_up. notes.known at (record { noted = knows.noted; board = knows.board; now = knows.now }) looked_up;
-        owned = λ q there. or_left (is_some (file_hold x.path.file q)) _ there;
-        pieces = λ q there. or_left _ false there;
-      } in
       record {
         event = event;
         is = refl;
         answer = ap (λ (e : Event). e.answer) is;
         doing = ap (λ (e : Event). e.doing) is;
-        kept = subst (λ (e : Event). Follows s n (ops.Read off len own) t e x k x l a) (sym is) follows;
+        kept = follows-noted s n (ops.Read off len own) t event x k (record k { noted = m }) a (ap (λ (e : Event). e.commits) is) notes
+            refl refl (λ q there. there);
         settles = record {
           logs = record { filled = old; fill = rw (ap (λ (e : Event). e.fills) is) refl; settles = rw (ap (λ (e : Event). e.fills) is) settles };
           stand = record { files = stand.files; pending = stand.pending; pins = λ q h none. absurd (none-some h none) };
@@ -155,20 +115,20 @@ module _ (s : Job) (n r off len : ℕ) (own : Bool) (x : OwnedPath) (k : ClientP
   pub EventFollows-closed : k.is_open ≡ false → AreHeldSlots old → KeptStand s old x k Idle
       → EventFollows s n (ops.Read off len own) r (kept x k Idle old) (kept x k Idle old) (Some answers.BadF)
   EventFollows-closed closed held stand =
-      ends s n r off len own x k Idle old old answers.BadF k.noted (cond-false k.is_open _ _ closed) (Notes-closed x k)
+      ends s n r off len own x k Idle old old answers.BadF k.noted (cond-false k.is_open _ _ closed)
+      (notes-none x k Idle answers.BadF refl)
       (Settles-same (holds_kept x k Idle) old held) stand
 
   -- there is no file
   pub EventFollows-absent : k.is_open ≡ true → x.path.file ≡ None → AreHeldSlots old → KeptStand s old x k Idle
       → EventFollows s n (ops.Read off len own) r (kept x k Idle old)
-      (kept x (record k { noted = later_of (record { version = length x.path.journal; exists = false }) k.noted }) Idle old)
-      (Some (answers.NoEnt (length x.path.journal)))
+      (kept x (record k { noted = later_of k.noted (noted_now x.path) }) Idle old) (Some (answers.NoEnt (length x.path.journal)))
   EventFollows-absent is_open absent held stand =
       ends s n r off len own x k Idle old old (answers.NoEnt (length x.path.journal)) _
       (cond-true k.is_open _ _ is_open
       ∙ ap (λ (f : Option (BookFile PlainHold)). lookup_over seen_now (view_of s (marks_in s) own (pending_lines k) (file_marks f)) asks) absent
       ∙ nothing-found own)
-      (Notes-absent x k absent) (Settles-same (holds_kept x k Idle) old held) stand
+      (notes-now x k Idle (answers.NoEnt (version x.path)) refl) (Settles-same (holds_kept x k Idle) old held) stand
 
   -- a read begins, by holds each of which is of a slot that has its piece
   pub EventFollows-begun : (f : BookFile PlainHold) (hold_at : Piece → Option PlainHold) (t : ReadTask) → k.is_open ≡ true
@@ -205,7 +165,7 @@ module _ (s : Job) (n r off len : ℕ) (own : Bool) (x : OwnedPath) (k : ClientP
     -- all runs were fetched, and the bytes are shown
     pub EventFollows-shown : length t.runs.items ≤ t.fetched → Settles (pin_count t.pins) no_count old new
         → EventFollows s n (ops.Read off len own) r (kept x k (Read t) old)
-        (kept x (record k { noted = later_of (record { version = t.version; exists = true }) k.noted }) Idle new)
+        (kept x (record k { noted = later_of k.noted (record { version = t.version; attr = t.attr }) }) Idle new)
         (Some (shows t.version t.bytes.items))
     EventFollows-shown all settles =
         ends s n r off len own x k (Read t) old new (shows t.version t.bytes.items) _
@@ -213,7 +173,7 @@ module _ (s : Job) (n r off len : ℕ) (own : Bool) (x : OwnedPath) (k : ClientP
         ∙ ap (λ (bytes : List ℕ). answered (shows t.version bytes))
         (sym (HasBytes-whole s t.runs.items t.bytes.items (subst (λ (fs : List Fragment). HasBytes s fs t.bytes.items)
         (take_all t.fetched t.runs.items all) task.bytes))))
-        (Notes-shown x k t t.bytes.items)
+        (notes-shown s x k t t.bytes.items task)
         (Settles-more (λ q. if keeps x k q then 1 else 0) (pin_count t.pins) no_count old new settles) stand
 
 -- the slots that holds which stand are of

@@ -26,4 +26,5 @@ pub mod Reads
 pub mod BooksRead
 pub mod Counts
 pub mod Goes
+pub mod Told
 pub mod LineEvents

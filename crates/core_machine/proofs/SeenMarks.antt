@@ -1,8 +1,8 @@
 -- What a client sees of a range of a file: what was found there alone, and with its own pending writes put over it.
-use Rattle.fs_types.proofs.Common.{◌≡◌, ℕ, ◌+◌, ◌-◌, ◌<◌, ◌≤◌, min, max, Bool, true, false, List, [], ◌∷◌, length, get_or, All, All-head, All-tail}
-use Rattle.fs_types.proofs.Common.{Option, Some, None, IsSome, is_some, nat_le, nat_lt, ◌&&◌, refl, sym, ap, ◌∙◌, subst, arith, nat_tests, inl, inr}
-use Rattle.fs_types.proofs.Common.{cases_lt, cases_Bool, cond_both, cond-true, cond-false, and_parts, leb-true, ltb-true, same_Some, none-some}
-use Rattle.fs_types.proofs.Common.{le-leb, lt-ltb, and_from, get_or_past, if◌then◌else◌, length-map-range_with_len, true≢false, false_from_ne_true, Vec, Global}
+use Rattle.fs_types.proofs.Common.{◌≡◌, ℕ, ◌+◌, ◌-◌, ◌<◌, ◌≤◌, min, max, true, List, [], ◌∷◌, length, get_or, All, All-head, All-tail}
+use Rattle.fs_types.proofs.Common.{Option, Some, None, IsSome, is_some, nat_le, nat_lt, refl, sym, ap, ◌∙◌, subst, arith, nat_tests, inl, inr}
+use Rattle.fs_types.proofs.Common.{cases_lt, cond_both, cond-true, and_parts, leb-true, ltb-true, same_Some, none-some}
+use Rattle.fs_types.proofs.Common.{le-leb, lt-ltb, and_from, get_or_past, length-map-range_with_len, true≢false, false_from_ne_true, Vec, Global}
 use Rattle.std.specs.Prelude.{find}
 use Rattle.std.specs.Option.{option_or}
 use Rattle.fs_types.proofs.Overwrites.{length-shown, get_or-shown}
@@ -14,7 +14,7 @@ use Rattle.fs_types.specs.declared.attr.Attr.{Attr}
 use Rattle.slot_plain.specs.Log.{Log}
 use Rattle.span_list.specs.Spans.{AreSpans, cut_fragments}
 use Rattle.span_list.proofs.CallerLemmas.{AreSpans-cut, AreSpans-from, get_or-marks}
-use Rattle.piece_table.specs.HeldSpans.{Held, LiesIn, held, is_named, put_fragments}
+use Rattle.piece_table.specs.HeldSpans.{Held, LiesIn, is_named, put_fragments}
 use Rattle.piece_table.specs.PieceTable.{AreTheirs}
 use Rattle.piece_table.proofs.CallerLemmas.{mark_at-put_fragments}
 use Rattle.owner_book.specs.Calls.{attr, version}
@@ -25,8 +25,8 @@ use Rattle.owner_book.proofs.Parts.{parts-marks}
 use Rattle.fs_script.specs.Live.{is_of_piece}
 use Rattle.fs_script.specs.Vocabulary.{Job, marks_in, piece_of, put_lines, shown}
 use Rattle.fs_script.proofs.CallerLemmas.{piece_eq_equiv, some_of, none_from-is_some}
-use Rattle.core_machine.specs.declared.client_path.ClientPath.{ClientPath}
-use Rattle.core_machine.specs.declared.pending.Pending.{Pending}
+use Rattle.core_machine.specs.ClientPath.{ClientPath}
+use Rattle.core_machine.specs.ClientPath.{Pending}
 use Rattle.core_machine.specs.declared.plain_hold.PlainHold.{PlainHold}
 use Rattle.core_machine.specs.declared.task.Task.{Task}
 use Rattle.core_machine.specs.BookFiles.{IsFile, marks_of_file}
@@ -172,23 +172,23 @@ found-first (Some h) p some = refl
 module _ (s : Job) (f : BookFile PlainHold) (q : Pending) (off len : ℕ) (found : Looked PlainHold) (file : IsFile f)
     (is : IsFoundIn f off len found) (pending : ArePending s q) where
   abbrev hold_seen : Piece → Option PlainHold
-  hold_seen = either_hold (found_hold found) (held q.held).hold_of
+  hold_seen = either_hold (found_hold found) q.held.hold_of
 
   -- each is of its piece
   seen-theirs : AreTheirs (λ h. h.piece) hold_seen
   seen-theirs p h there = by (found_hold found p) refl there where
-    by : (o : Option PlainHold) → found_hold found p ≡ o → option_or o ((held q.held).hold_of p) ≡ Some h → h.piece ≡ p
+    by : (o : Option PlainHold) → found_hold found p ≡ o → option_or o (q.held.hold_of p) ≡ Some h → h.piece ≡ p
     by None none own = pending.are_held.piece p h own
     by (Some g) at same = file.are_held.piece p h (found-own f off len found file is p h (at ∙ same))
 
   -- so the file alone is seen by them too
   pub IsSeenIn-alone : IsSeenIn (shown (marks_of_file f) off len) off len hold_seen found
   IsSeenIn-alone =
-      IsSeenIn-found f off len found file is hold_seen seen-theirs (λ p some. found-first (found_hold found p) ((held q.held).hold_of p) some)
+      IsSeenIn-found f off len found file is hold_seen seen-theirs (λ p some. found-first (found_hold found p) (q.held.hold_of p) some)
 
   -- ---- with the client's pending writes over it
 
-  module _ (apart : (p : Piece) → is_some ((held q.held).hold_of p) ≡ true → f.held.hold_of p ≡ None) where
+  module _ (apart : (p : Piece) → is_some (q.held.hold_of p) ≡ true → f.held.hold_of p ≡ None) where
     abbrev over : List Fragment
     over = q.held.fragments
 
@@ -196,11 +196,11 @@ module _ (s : Job) (f : BookFile PlainHold) (q : Pending) (off len : ℕ) (found
     under = f.held.fragments
 
     abbrev cells : List (Option Mark)
-    cells = put_lines s (marks_in s) q.lines.items (marks_of_file f)
+    cells = put_lines s (marks_in s) q.lines (marks_of_file f)
 
     -- the file's fragments with the pending ones put over them have the marks of the lines
     whole : marks_of_fragments (put_fragments over under) (max f.size q.end) ≡ cells
-    whole = marks-committed s q.lines.items over under q.end f.size pending.are_held.spans pending.marks pending.within file.within
+    whole = marks-committed s q.lines over under q.end f.size pending.are_held.spans pending.marks pending.within file.within
 
     seen-mark : (k : ℕ) → k < len → get_or (shown cells off len) k None ≡ option_or (mark_at over (off + k)) (mark_at under (off + k))
     seen-mark k lt =
@@ -210,7 +210,7 @@ module _ (s : Job) (f : BookFile PlainHold) (q : Pending) (off len : ℕ) (found
         ∙ mark_at-put_fragments over under (off + k) pending.are_held.spans
 
     -- a pending piece wasn't found in the file
-    not-found : (p : Piece) → is_some ((held q.held).hold_of p) ≡ true → found_hold found p ≡ None
+    not-found : (p : Piece) → is_some (q.held.hold_of p) ≡ true → found_hold found p ≡ None
     not-found p waits = none_from-is_some (found_hold found p) (false_from_ne_true (is_some (found_hold found p)) (λ some.
         let h = some_of (found_hold found p) some in
         none-some h.0 (sym (apart p waits) ∙ found-own f off len found file is p h.0 h.1)))
@@ -220,14 +220,14 @@ module _ (s : Job) (f : BookFile PlainHold) (q : Pending) (off len : ℕ) (found
     seen-held k m lt at = by (mark_at over (off + k)) refl at where
       by : (o : Option Mark) → mark_at over (off + k) ≡ o → option_or o (mark_at under (off + k)) ≡ Some m → HasHold hold_seen m
       by (Some n) here same =
-          let own = mark-held (held q.held) (off + k) m pending.are_held (here ∙ same) in
-          held-by (held q.held).hold_of hold_seen m
-          (ap (λ o. option_or o ((held q.held).hold_of (piece_of m))) (not-found (piece_of m) (ap is_some own.is))) own
+          let own = mark-held q.held (off + k) m pending.are_held (here ∙ same) in
+          held-by q.held.hold_of hold_seen m
+          (ap (λ o. option_or o (q.held.hold_of (piece_of m))) (not-found (piece_of m) (ap is_some own.is))) own
       by None none here =
           let own = mark-held f.held (off + k) m file.are_held here in
           let same = mark-found f off len found file is k m lt here in
           held-by f.held.hold_of hold_seen m
-          (found-first (found_hold found (piece_of m)) ((held q.held).hold_of (piece_of m)) (ap is_some (same ∙ own.is)) ∙ same) own
+          (found-first (found_hold found (piece_of m)) (q.held.hold_of (piece_of m)) (ap is_some (same ∙ own.is)) ∙ same) own
 
     module _ (v : Vec Fragment Global) (size : ℕ) (spans : AreSpans v.items)
         (puts : v.items ≡ put_fragments (parts_in off (off + len) over) found.frags.items) (size_is : size ≡ max found.attr.size q.end) where

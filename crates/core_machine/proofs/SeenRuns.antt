@@ -1,6 +1,5 @@
 -- What is seen of a range, as the runs that a read of it fetches, and that they can be fetched.
 use Rattle.fs_types.proofs.Common.{◌≡◌, ℕ, ◌+◌, ◌<◌, ◌≤◌, ◌^◌, List, length, All, Option, arith, sym, subst}
-use Rattle.fs_types.specs.Fragments.{end_of}
 use Rattle.fs_types.specs.Pieces.{Piece}
 use Rattle.owner_book.specs.declared.looked.Looked.{Looked}
 use Rattle.fs_script.specs.Vocabulary.{Mark, runs}

@@ -7,7 +7,9 @@ use Rattle.fs_types.specs.declared.push.Push.{Push}
 use Rattle.fs_script.specs.Vocabulary.{Job, LONGEST_FILE, effect_of, marks_in, put_lines}
 use Rattle.fs_script.specs.declared.line.Op.TheVariants as ops
 use Rattle.span_list.proofs.CallerLemmas.{cut_ends, marks_of_fragments-cut}
-use Rattle.piece_table.specs.HeldSpans.{AreGone, Cuts, PutsAll, held}
+use Rattle.piece_table.specs.HeldSpans.{AreGone, Cuts, PutsAll}
+use Rattle.client_files.specs.declared.noted.Noted.{Noted}
+use Rattle.client_map.specs.Kept.{pending_end}
 use Rattle.owner_book.specs.Calls.{version}
 use Rattle.owner_book.specs.Commits.{HasHolds}
 use Rattle.owner_book.specs.Kept.{BookFile, BookPath, held_in}
@@ -18,8 +20,7 @@ use Rattle.core_machine.specs.Follows.{kept_event}
 use Rattle.core_machine.specs.Kept.{AreSound, OwnedPath, file_marks, owned_of, pending_lines}
 use Rattle.core_machine.specs.PendingWrites.{IsPushOf}
 use Rattle.core_machine.specs.PlainHolds.{AreHeldPlain}
-use Rattle.core_machine.specs.declared.board.Board.{Board}
-use Rattle.core_machine.specs.declared.client_path.ClientPath.{ClientPath}
+use Rattle.core_machine.specs.ClientPath.{ClientPath}
 use Rattle.core_machine.specs.declared.plain_hold.PlainHold.{PlainHold}
 use Rattle.core_machine.specs.declared.task.Task.TheVariants.{Idle}
 use Rattle.core_machine.proofs.Commits.{holds-cut}
@@ -39,9 +40,9 @@ module _ (s : Job) (x : OwnedPath) (k : ClientPath) (size : ℕ) where
 -- ---- what is committed
 
 -- line n put the push of what its client had pending over the file, and gave it so many bytes
-module _ (s : Job) (n size : ℕ) (x y : BookPath PlainHold) (board : Board) (k : ClientPath) (f : BookFile PlainHold) (push : Push PlainHold)
-    (dead : List PlainHold) (sound : AreSound s (owned_of x board) k) (file : x.file ≡ Some f) (opened : k.is_open ≡ true)
-    (limit : size ≤ LONGEST_FILE) (is_push : IsPushOf (held k.pending.held) push)
+module _ (s : Job) (n size : ℕ) (x y : BookPath PlainHold) (told : Noted) (k : ClientPath) (f : BookFile PlainHold) (push : Push PlainHold)
+    (dead : List PlainHold) (sound : AreSound s (owned_of x told) k) (file : x.file ≡ Some f) (opened : k.is_open ≡ true)
+    (limit : size ≤ LONGEST_FILE) (end : k.pending.end ≡ pending_end k.pending.held.fragments) (is_push : IsPushOf k.pending.held push)
     (changed : y ≡ with_truncation (λ h. h.piece) n push size x)
     (has : HasHolds (λ (h : PlainHold). true) (λ h. h.piece) (λ h. h.bytes) y) (gone : AreDeadOfBoth (λ h. h.piece) push x y dead) where
   is_file : IsFile f
@@ -54,13 +55,13 @@ module _ (s : Job) (n size : ℕ) (x y : BookPath PlainHold) (board : Board) (k 
   file_then = ap (λ (q : BookPath PlainHold). q.file) changed
       ∙ ap (option_map (λ (h : BookFile PlainHold). with_size size (with_pushed push h))) file
 
-  event : (free : ℕ) → kept_event s (owned_of x board) k free Idle (ops.Trunc size) ≡ committed_as (length x.journal + 1)
+  event : (free : ℕ) → kept_event s (owned_of x told) k free Idle (ops.Trunc size) ≡ committed_as (length x.journal + 1)
   event free = let unfrozen : f.frozen ≡ false = is_file.unfrozen in rw (opened, file, unfrozen) refl
 
   marks-cut : marks_of_file g ≡ cut no_mark (put_lines s (marks_in s) (pending_lines k) (marks_of_file f)) size
   marks-cut = marks_of_fragments-cut size (with_pushed push f).held.fragments (with_pushed push f).size
-      (within-pushed s k.pending push f sound.pending is_file is_push)
-      ∙ ap (λ ms. cut no_mark ms size) (marks-pushed s k.pending push f sound.pending is_file is_push)
+      (within-pushed s k.pending push f sound.pending end is_file is_push)
+      ∙ ap (λ ms. cut no_mark ms size) (marks-pushed s k.pending push f sound.pending end is_file is_push)
 
   marks : file_marks y.file ≡ effect_of s (marks_in s) (ops.Trunc size) (pending_lines k) (file_marks x.file)
   marks = ap file_marks file_then ∙ ap (file_with f.frozen) marks-cut
@@ -68,14 +69,14 @@ module _ (s : Job) (n size : ℕ) (x y : BookPath PlainHold) (board : Board) (k 
       is_file.unfrozen)
       ∙ ap (λ o. effect_of s (marks_in s) (ops.Trunc size) (pending_lines k) (file_marks o)) (sym file)
 
-  puts : PutsAll (held k.pending.held) (held_in x.file) (with_pushed push f).held
-  puts = subst (λ o. PutsAll (held k.pending.held) (held_in o) (with_pushed push f).held) (sym file)
-      (puts-pushed s k.pending push f sound.pending is_file is_push)
+  puts : PutsAll k.pending.held (held_in x.file) (with_pushed push f).held
+  puts = subst (λ o. PutsAll k.pending.held (held_in o) (with_pushed push f).held) (sym file)
+      (puts-pushed s k.pending push f sound.pending end is_file is_push)
 
   cuts : Cuts size (with_pushed push f).held (held_in y.file)
   cuts = subst (λ o. Cuts size (with_pushed push f).held (held_in o)) (sym file_then) (record { fragments = refl; holds = λ q. refl })
 
-  pub commits-truncated : CommitsLine s n (ops.Trunc size) x y board k dead
+  pub commits-truncated : CommitsLine s n (ops.Trunc size) x y told k dead
   commits-truncated = record {
     event = event;
     lines = λ v. refl;
@@ -88,9 +89,9 @@ module _ (s : Job) (n size : ℕ) (x y : BookPath PlainHold) (board : Board) (k 
       most = limit;
       unfrozen = is_file.unfrozen;
     });
-    empties = λ b l none. record {
+    empties = λ l none. record {
       emptied = none;
-      holds = holds-cut (held k.pending.held) (held_in x.file) sound.pending.are_held sound.apart (with_pushed push f).held puts size
+      holds = holds-cut k.pending.held (held_in x.file) sound.pending.are_held sound.apart (with_pushed push f).held puts size
           (held_in y.file) cuts has;
       are_gone = subst (λ over. AreGone (λ (h : PlainHold). h.piece) (beside over (held_in x.file)) (held_in y.file) dead)
           (pushed-is k.pending push is_push) gone;

@@ -1,10 +1,11 @@
 -- An unlink: its events, and what it leaves of the path.
-use Rattle.fs_types.proofs.Common.{◌≡◌, ℕ, ◌+◌, true, false, List, length, Some, None, IfSome, if◌then◌else◌}
+use Rattle.fs_types.proofs.Common.{◌≡◌, ℕ, ◌+◌, ◌++◌, true, false, List, length, Some, None, IfSome, if◌then◌else◌}
 use Rattle.fs_types.proofs.Common.{nil_from_length, refl, sym, ap, ◌∙◌, subst}
 use Rattle.fs_types.specs.declared.answer.Answer.TheVariants as answers
 use Rattle.fs_script.specs.Vocabulary.{Job, effect_of, marks_in}
 use Rattle.fs_script.specs.declared.line.Op.TheVariants as ops
-use Rattle.piece_table.specs.HeldSpans.{AreGone, HandsOver, held, is_named}
+use Rattle.piece_table.specs.HeldSpans.{AreGone, is_named}
+use Rattle.client_files.specs.declared.noted.Noted.{Noted}
 use Rattle.owner_book.specs.Calls.{version, without_file}
 use Rattle.owner_book.specs.Commits.{AreDead}
 use Rattle.owner_book.specs.Kept.{BookFile, BookPath, held_in}
@@ -13,9 +14,7 @@ use Rattle.core_machine.specs.Event.{answered, committed_as}
 use Rattle.core_machine.specs.Follows.{kept_event}
 use Rattle.core_machine.specs.Kept.{AreSound, OwnedPath, file_hold, file_marks, owned_of, pending_lines}
 use Rattle.core_machine.specs.PendingWrites.{IsNonePending}
-use Rattle.core_machine.specs.declared.board.Board.{Board}
-use Rattle.core_machine.specs.declared.client_path.ClientPath.{ClientPath}
-use Rattle.core_machine.specs.declared.pending.Pending.{Pending}
+use Rattle.core_machine.specs.ClientPath.{ClientPath, Pending}
 use Rattle.core_machine.specs.declared.plain_hold.PlainHold.{PlainHold}
 use Rattle.core_machine.specs.declared.task.Task.TheVariants.{Idle}
 use Rattle.core_machine.proofs.Commits.{gone-beside, gone-unnamed, kept_held}
@@ -34,17 +33,17 @@ module _ (s : Job) (x : OwnedPath) (k : ClientPath) where
 -- ---- what is committed
 
 -- line n took the file away, and what its client had pending was dropped
-module _ (s : Job) (n : ℕ) (x y : BookPath PlainHold) (board : Board) (k : ClientPath) (f : BookFile PlainHold) (p : Pending)
-    (dead after : List PlainHold) (sound : AreSound s (owned_of x board) k) (file : x.file ≡ Some f) (opened : k.is_open ≡ true)
-    (changed : y ≡ without_file n x) (gone : AreDead (λ h. h.piece) x y dead) (nothing : IsNonePending p)
-    (handed : HandsOver (λ (h : PlainHold). h.piece) (held k.pending.held) (held p.held) dead after) where
+module _ (s : Job) (n : ℕ) (x y : BookPath PlainHold) (told : Noted) (k : ClientPath) (f : BookFile PlainHold) (p : Pending)
+    (dead gone after : List PlainHold) (sound : AreSound s (owned_of x told) k) (file : x.file ≡ Some f) (opened : k.is_open ≡ true)
+    (changed : y ≡ without_file n x) (of_file : AreDead (λ h. h.piece) x y dead) (nothing : IsNonePending p)
+    (of_pending : AreGone (λ (h : PlainHold). h.piece) k.pending.held p.held gone) (both : after ≡ dead ++ gone) where
   none_then : y.file ≡ None
   none_then = ap (λ (q : BookPath PlainHold). q.file) changed
 
-  event : (free : ℕ) → kept_event s (owned_of x board) k free Idle ops.Unlink ≡ committed_as (length x.journal + 1)
+  event : (free : ℕ) → kept_event s (owned_of x told) k free Idle ops.Unlink ≡ committed_as (length x.journal + 1)
   event free = rw (opened, file) refl
 
-  pub commits-unlinked : CommitsLine s n ops.Unlink x y board k after
+  pub commits-unlinked : CommitsLine s n ops.Unlink x y told k after
   commits-unlinked = record {
     event = event;
     lines = λ v. refl;
@@ -52,13 +51,13 @@ module _ (s : Job) (n : ℕ) (x y : BookPath PlainHold) (board : Board) (k : Cli
     journal = ap (λ (q : BookPath PlainHold). q.journal) changed;
     marks = ap file_marks none_then ∙ ap (λ o. effect_of s (marks_in s) ops.Unlink (pending_lines k) (file_marks o)) (sym file);
     written = subst (λ o. IfSome o IsFile) (sym none_then) tt;
-    empties = λ b l none. record {
+    empties = λ l none. record {
       emptied = none;
       holds = λ q. ap (λ o. file_hold o q) none_then
-          ∙ sym (ap (λ o. if is_named (held_in o).fragments q then (kept_held (owned_of x board) k).hold_of q else None) none_then);
-      are_gone = subst (λ all. AreGone (λ (h : PlainHold). h.piece) (kept_held (owned_of x board) k) (held_in y.file) all) (sym handed.1)
-          (gone-beside (held k.pending.held) (held_in x.file) sound.pending.are_held sound.apart (held_in y.file) dead handed.0 gone
-          (gone-unnamed (held k.pending.held) (held p.held) (held_in y.file) handed.0
-          (nil_from_length p.held.fragments nothing.fragments ∙ sym (ap (λ o. (held_in o).fragments) none_then)) handed.2));
+          ∙ sym (ap (λ o. if is_named (held_in o).fragments q then (kept_held (owned_of x told) k).hold_of q else None) none_then);
+      are_gone = subst (λ all. AreGone (λ (h : PlainHold). h.piece) (kept_held (owned_of x told) k) (held_in y.file) all) (sym both)
+          (gone-beside k.pending.held (held_in x.file) sound.pending.are_held sound.apart (held_in y.file) dead gone of_file
+          (gone-unnamed k.pending.held p.held (held_in y.file) gone
+          (nil_from_length p.held.fragments nothing.fragments ∙ sym (ap (λ o. (held_in o).fragments) none_then)) of_pending));
     };
   }

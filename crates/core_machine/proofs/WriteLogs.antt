@@ -1,5 +1,5 @@
 -- A write's part in the logs: its parts are in their slots, held by what is pending, and what they leave no byte of is let go of.
-use Rattle.fs_types.proofs.Common.{◌≡◌, ◌≢◌, ℕ, ◌+◌, ◌==◌, ◌||◌, ◌<◌, true, false, List, [], length, Some, None, is_some}
+use Rattle.fs_types.proofs.Common.{◌≡◌, ◌≢◌, ℕ, ◌+◌, ◌==◌, ◌||◌, ◌<◌, ◌≤◌, true, false, List, [], length, Some, None, is_some}
 use Rattle.fs_types.proofs.Common.{slice_get, Contains, cond, All, set, get_or}
 use Rattle.fs_types.proofs.Common.{refl, sym, ap, ◌∙◌, ◌⊎◌, inl, inr, subst, arith, cases_Bool, cases_eq, true≢false, none-some}
 use Rattle.fs_types.proofs.Common.{same_Some, ne_eqb, eq-eqb, and_from}
@@ -9,12 +9,14 @@ use Rattle.std.proofs.Math.Bool.{or-true}
 use Rattle.fs_types.specs.Fragments.{piece_eq}
 use Rattle.slot_plain.specs.Log.{Log}
 use Rattle.slot_plain.specs.Slots.{Slot, StoredPiece}
-use Rattle.fs_script.specs.Vocabulary.{Job, Piece, need}
+use Rattle.fs_script.specs.Payload.{bytes_brought, place_brought}
+use Rattle.fs_script.specs.Vocabulary.{Job, LONGEST_FILE, Piece, need, offset, payload, write_at}
 use Rattle.fs_script.specs.declared.line.Op.{Op}
 use Rattle.fs_script.proofs.CallerLemmas.{none_from-is_some, some_of}
-use Rattle.piece_table.specs.HeldSpans.{AreGone, HandsOver, held, is_named}
-use Rattle.core_machine.specs.declared.client_path.ClientPath.{ClientPath}
+use Rattle.piece_table.specs.HeldSpans.{AreGone, is_named}
+use Rattle.core_machine.specs.ClientPath.{ClientPath, own_of}
 use Rattle.core_machine.specs.Kept.{OwnedPath}
+use Rattle.core_machine.specs.declared.client.Client.{Client}
 use Rattle.core_machine.specs.declared.plain_hold.PlainHold.{PlainHold}
 use Rattle.core_machine.specs.declared.task.Task.TheVariants.{Idle}
 use Rattle.core_machine.specs.Follows.{EventSound, LogsSettle}
@@ -22,10 +24,10 @@ use Rattle.core_machine.specs.HoldsKept.{holds_kept, keeps}
 use Rattle.core_machine.specs.Kept.{AreSound, file_hold, pending_hold}
 use Rattle.core_machine.specs.Logs.{AreHeldSlots, FillsLine, IsHeld, ReleasesAll, are_of_one_slot, slot_in}
 use Rattle.core_machine.specs.Logs.{stored_part}
-use Rattle.core_machine.specs.PendingWrites.{AddsHolds, ArePending}
+use Rattle.core_machine.specs.PendingWrites.{AddsHolds, ArePending, MayAddLine}
 use Rattle.core_machine.specs.Settling.{FillsLog}
-use Rattle.core_machine.proofs.Filled.{HasPart, IsHeldIn-kept, IsHeldIn-part, part-hold, slot-cases}
-use Rattle.core_machine.proofs.LetGo.{all_gone, idle_kept}
+use Rattle.core_machine.proofs.Filled.{HasPart, IsHeldIn-kept, IsHeldIn-part, part-hold, part-holds, slot-cases}
+use Rattle.core_machine.proofs.LetGo.{idle_kept}
 use Rattle.core_machine.proofs.Settled.{AreInSlots, apart-gone, held-gone, settles-gone}
 
 -- What a client has pending once line n is: the line's pieces by these holds, and of the others each its own, or none where
@@ -39,8 +41,8 @@ pub record AddsLine (n : ℕ) (holds : List PlainHold) (k l : ClientPath) (gone 
   pub once : AllPairs (λ g h. piece_eq g.piece h.piece ≡ false) gone
 
 pub adds-line : (n : ℕ) (holds : List PlainHold) (k l : ClientPath) (gone : List PlainHold)
-    → AddsHolds n holds (held k.pending.held) (held l.pending.held)
-    → AreGone (λ (h : PlainHold). h.piece) (held k.pending.held) (held l.pending.held) gone → AddsLine n holds k l gone
+    → AddsHolds n holds k.pending.held l.pending.held
+    → AreGone (λ (h : PlainHold). h.piece) k.pending.held l.pending.held gone → AddsLine n holds k l gone
 adds-line n holds k l gone adds are_gone = record {
   own = λ q same. adds.holds q ∙ cond-true (q.line == n) (slice_get holds q.part) _ (eq-eqb q.line n same);
   others = λ q other. elim (cases_Bool (is_named l.pending.held.fragments q)) [
@@ -59,20 +61,13 @@ adds-line n holds k l gone adds are_gone = record {
   other_hold : (q : Piece) → q.line ≢ n → pending_hold l q ≡ cond (is_named l.pending.held.fragments q) (pending_hold k q) None
   other_hold q other = adds.holds q ∙ cond-false (q.line == n) (slice_get holds q.part) _ (ne_eqb q.line n other)
 
--- a write of no bytes has no hold, and leaves what was pending
-pub adds-nothing : (n : ℕ) (holds : List PlainHold) (x : OwnedPath) (k : ClientPath) → length holds ≡ 0
-    → ((q : Piece) → q.line ≡ n → keeps x k q ≡ false) → AddsLine n holds k k []
-adds-nothing n holds x k none fresh = record {
-  own = λ q own. elim (cases_Bool (is_some (pending_hold k q))) [
-    | inr absent ↦ none_from-is_some (pending_hold k q) absent ∙ sym (slice_get_past holds q.part (omega arith))
-    | inl there ↦ absurd (true≢false
-        (sym (ap (λ b. is_some (file_hold x.path.file q) || b) there ∙ or-true (is_some (file_hold x.path.file q))) ∙ fresh q own))
-  ];
-  others = λ q other. inl refl;
-  was = λ h is_gone. absurd (omega (arith, is_gone.1));
-  no_more = λ h is_gone. absurd (omega (arith, is_gone.1));
-  once = λ i j d lt within. absurd (omega arith);
-}
+-- a piece that isn't kept has no hold among what is pending
+none-pending : (x : OwnedPath) (k : ClientPath) (q : Piece) → keeps x k q ≡ false → pending_hold k q ≡ None
+none-pending x k q none = elim (cases_Bool (is_some (pending_hold k q))) [
+  | inr absent ↦ none_from-is_some (pending_hold k q) absent
+  | inl there ↦ absurd (true≢false
+      (sym (ap (λ b. is_some (file_hold x.path.file q) || b) there ∙ or-true (is_some (file_hold x.path.file q))) ∙ none))
+]
 
 -- the log that a line was put into, at its place among the others
 abbrev pub fills-log : (s : Job) (n r i : ℕ) (logs : List Log) (d new : Log) (holds : List PlainHold) → i ≡ r → r < length logs
@@ -84,6 +79,35 @@ fills-log s n r i logs d new holds same within fills = record {
   changed = ap (λ j. set logs j new) same;
   holds = holds;
   fills = fills;
+}
+
+-- a line that writes bytes may be added, by the holds of its parts
+pub may-add-line : (s : Job) (n : ℕ) (op : Op) (r : ℕ) (x : OwnedPath) (c : Client) (p lines : List ℕ) (logs : List Log) (i : ℕ) (d new : Log)
+    (holds : List PlainHold) (off len : ℕ) (bytes : List ℕ) → i ≡ r → EventSound s n op r (idle_kept x (own_of c p lines) logs)
+    → FillsLine s n (get_or logs i d) new holds → write_at s n ≡ Some (record { at = off; bytes = bytes }) → length bytes ≡ len → 0 < len
+    → off + len ≤ LONGEST_FILE → c.pending.chunk ≡ s.shape.chunk → 0 < s.shape.chunk → MayAddLine s n off len holds c p
+may-add-line s n op r x c p lines logs i d new holds off len bytes same sound fills line long some end chunk least =
+    let place : offset s n ≡ off = ap place_brought line in
+    let size : length (payload s n) ≡ len = ap (λ w. length (bytes_brought w)) line ∙ long in
+    record {
+      chunk = chunk;
+      some = least;
+      brings = record { write = ap is_some line; some = omega (arith, size, some); end = omega (arith, place, size, end) };
+      place = place;
+      size = size;
+      of_parts = part-holds s n r logs (set logs i new) (fills-log s n r i logs d new holds same sound.log fills);
+      new_pieces = λ q. none-pending x (own_of c p lines) (record { line = n; part = q }) (sound.fresh (record { line = n; part = q }) refl);
+    }
+
+-- a write of no bytes has no hold, and leaves what was pending
+pub adds-nothing : (n : ℕ) (holds : List PlainHold) (x : OwnedPath) (k l : ClientPath) → l.pending.held ≡ k.pending.held
+    → length holds ≡ 0 → ((q : Piece) → q.line ≡ n → keeps x k q ≡ false) → AddsLine n holds k l []
+adds-nothing n holds x k l same none fresh = record {
+  own = λ q own. ap (λ h. h.hold_of q) same ∙ none-pending x k q (fresh q own) ∙ sym (slice_get_past holds q.part (omega arith));
+  others = λ q other. inl (ap (λ h. h.hold_of q) same);
+  was = λ h is_gone. absurd (omega (arith, is_gone.1));
+  no_more = λ h is_gone. absurd (omega (arith, is_gone.1));
+  once = λ i j d lt within. absurd (omega arith);
 }
 
 module _ (s : Job) (n : ℕ) (op : Op) (r : ℕ) (x : OwnedPath) (k l : ClientPath) (logs filled : List Log) (gone : List PlainHold)
@@ -221,7 +245,6 @@ module _ (s : Job) (n : ℕ) (op : Op) (r : ℕ) (x : OwnedPath) (k l : ClientPa
   pub sound-written : ArePending s l.pending → AreSound s x l
   sound-written pending = record {
     written = sound.whole.sound.written;
-    board = sound.whole.sound.board;
     pending = pending;
     apart = λ q there. elim (cases_eq q.line n) [
       | inl own ↦ file_without q (sound.fresh q own)
@@ -244,21 +267,18 @@ pub record WritesLine (s : Job) (n r : ℕ) (x : OwnedPath) (k l : ClientPath) (
   pub sound : ArePending s l.pending → AreSound s x l
 
 pub writes-line : (s : Job) (n : ℕ) (op : Op) (r : ℕ) (x : OwnedPath) (k l : ClientPath) (logs : List Log) (i : ℕ) (d new : Log)
-    (holds before after dead : List PlainHold) → i ≡ r → EventSound s n op r (idle_kept x k logs)
-    → FillsLine s n (get_or logs i d) new holds
-    → AddsHolds n holds (held k.pending.held) (held l.pending.held)
-    → HandsOver (λ (h : PlainHold). h.piece) (held k.pending.held) (held l.pending.held) before after → before ≡ [] → dead ≡ after
-    → WritesLine s n r x k l logs (set logs i new) dead
-writes-line s n op r x k l logs i d new holds before after dead same sound fills adds handed none_before same_dead =
+    (holds gone : List PlainHold) → i ≡ r → EventSound s n op r (idle_kept x k logs) → FillsLine s n (get_or logs i d) new holds
+    → AddsHolds n holds k.pending.held l.pending.held → AreGone (λ (h : PlainHold). h.piece) k.pending.held l.pending.held gone
+    → WritesLine s n r x k l logs (set logs i new) gone
+writes-line s n op r x k l logs i d new holds gone same sound fills adds are_gone =
     let filled = set logs i new in
-    let gone = handed.0 in
     let fill = fills-log s n r i logs d new holds same sound.log fills in
-    let line = adds-line n holds k l gone adds handed.2 in
+    let line = adds-line n holds k l gone adds are_gone in
     let slots = slots-gone s n op r x k l logs filled gone sound fill line in
-    subst (WritesLine s n r x k l logs filled) (all_gone before after dead gone none_before handed.1 same_dead) (record {
+    record {
       are_held = held-gone s filled gone slots;
       apart = apart-gone s filled gone slots;
       settle = settle-filled s n op r x k l logs filled gone sound fill line;
       from = pending-from s n op r x k l logs filled gone sound fill line;
       sound = sound-written s n op r x k l logs filled gone sound fill line;
-    })
+    }

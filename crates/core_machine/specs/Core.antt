@@ -5,21 +5,21 @@ use Rattle.core_machine.specs.Kept.{PathState}
 use Rattle.core_machine.specs.LegalSoFar.{IsLegalMoment}
 use Rattle.core_machine.specs.Moment.{Moment}
 use Rattle.core_machine.specs.MomentKept.{moment_of}
-use Rattle.core_machine.specs.Books.{path_at}
-use Rattle.core_machine.specs.PathStates.{AreKept, states_of}
+use Rattle.core_machine.specs.PathStates.{AreKept, AreToldBut, states_in}
 use Rattle.core_machine.specs.Turns.{IsInPhase}
 use Rattle.core_machine.specs.Standing.{Holds}
 
 -- what is kept for each path
 abbrev pub states : {D : Type 0} → Run D → List PathState
-states r = states_of (path_at r.books.items) r.paths r.boards.items r.clients.items
+states r = states_in r.script.now r.books.items r.board r.clients.items r.answers r.paths
 
 abbrev pub moment : {D : Type 0} → Run D → Moment
 moment r = moment_of r.script.now r.paths (states r) r.answers r.turns r.tasks.items r.logs.items r.spent
 
 -- until memory runs out all that is kept holds, and stands for a moment of a legal run
 pub record IsRun {D : Type 0} (r : Run D) : Type 0 where
-  pub kept : AreKept r.script.now.shape.servers r.paths r.books.items r.boards.items r.clients.items
+  pub kept : AreKept r.script.now r.books.items r.clients.items
+  pub told : r.spent ≡ false → AreToldBut r.script.now r.ended.items r.board r.books.items
   pub phases : IsInPhase r.turns
   pub holds : r.spent ≡ false → Holds r.script.now r.paths (states r) r.answers r.turns r.tasks.items r.logs.items
   pub legal : (told : List ℕ) → r.spent ≡ false → IsLegalMoment told (moment r)

@@ -7,9 +7,10 @@ use Rattle.slot_plain.specs.Slots.{StoredPiece}
 use Rattle.fs_script.specs.Vocabulary.{Answer, Job, Piece, marks_in, version_of, after_answer, effect_of, at_least, opens, asked}
 use Rattle.fs_script.specs.declared.line.Op.{Op}
 use Rattle.owner_book.specs.Kept.{Book}
-use Rattle.core_machine.specs.declared.board.Board.{Board}
+use Rattle.client_files.specs.Kept.{KeptBoard, told_in}
 use Rattle.core_machine.specs.declared.plain_hold.PlainHold.{PlainHold}
-use Rattle.core_machine.specs.declared.client_path.ClientPath.{ClientPath}
+use Rattle.core_machine.specs.ClientPath.{ChangesOwn, ClientPath, lines_then, own_of}
+use Rattle.core_machine.specs.declared.client.Client.{Client}
 use Rattle.core_machine.specs.declared.task.Task.{Task}
 use Rattle.core_machine.specs.declared.task.Task.TheVariants.{Idle, Read}
 use Rattle.core_machine.specs.Books.{ChangesPath, path_at}
@@ -40,7 +41,7 @@ KnowsLookedUp at (Read t) = record { exists = true; frozen = false } ≡ at t.ve
 -- what was noted of each version, and the file now, are as `at` says of the versions
 pub record Knows (at : ℕ → Known) (x : OwnedPath) (k : ClientPath) : Type 0 where
   pub noted : known_from k.noted ≡ at k.noted.version
-  pub board : known_from x.board.told ≡ at x.board.told.version
+  pub board : known_from x.told ≡ at x.told.version
   pub now : known_of (file_marks x.path.file) ≡ at (length x.path.journal)
 
 -- an event brings its line to its end with this answer, and puts the line's pieces into slots or doesn't
@@ -61,11 +62,11 @@ pub record Follows (s : Job) (n : ℕ) (op : Op) (t : Task) (e : Event) (x : Own
   pub journal : y.path.journal ≡ (if e.commits then x.path.journal ++ n ∷ [] else x.path.journal)
   pub marks : file_marks y.path.file
       ≡ (if e.commits then effect_of s (marks_in s) op (pending_lines k) (file_marks x.path.file) else file_marks x.path.file)
-  pub told : y.board.told ≡ x.board.told
+  pub told : y.told ≡ x.told
   pub opened : l.is_open ≡ (opens op a || k.is_open)
   pub pending : pending_lines l ≡ after_answer op a n (pending_lines k)
   pub version : l.noted.version ≡ at_least k.noted.version (version_of a)
-  pub within : k.noted.version ≤ length x.path.journal → x.board.told.version ≤ length x.path.journal
+  pub within : k.noted.version ≤ length x.path.journal → x.told.version ≤ length x.path.journal
       → LookedUpWithin t (length x.path.journal) → l.noted.version ≤ length y.path.journal
   -- whatever the versions' files are, what was noted goes on saying it
   pub known : (at : ℕ → Known) → Knows at y k → KnowsLookedUp at t → known_from l.noted ≡ at l.noted.version
@@ -108,6 +109,14 @@ free_in logs r = length (empty_slots (pieces_of (slice_get logs r)))
 pub record LogsSettle (s : Job) (n r : ℕ) (fills : Bool) (old new : EventKept) : Type 0 where
   pub logs : LogsFollow s n r fills (holds_kept old.owned old.client old.task) (holds_kept new.owned new.client new.task) old.logs new.logs
   pub stand : KeptStand s logs.filled new.owned new.client new.task
+
+-- Line n, the operation op of a client in the midst of nothing, came to its end with this answer, put nothing into slots and let no
+-- hold go: what is kept after it follows the event, and is sound.
+pub record EndsQuietly (s : Job) (n : ℕ) (op : Op) (x : OwnedPath) (k : ClientPath) (y : OwnedPath) (l : ClientPath) (a : Answer) : Type 0 where
+  pub ends : (free : ℕ) → Ends (kept_event s x k free Idle op) false a
+  pub follows : (free : ℕ) → Follows s n op Idle (kept_event s x k free Idle op) x k y l a
+  pub holds : KeepsHolds x k y l
+  pub sound : AreSound s y l
 
 -- Line n, the operation op of a client in the midst of nothing, came to its end with this answer and put nothing into slots: what is
 -- kept after it and the logs follow the event, and what is kept is sound.
@@ -161,31 +170,48 @@ pub record EventSound (s : Job) (n : ℕ) (op : Op) (r : ℕ) (kept : EventKept)
   pub log : r < length kept.logs
   pub rank : (log : Log) → slice_get kept.logs r ≡ Some log → log.rank ≡ r
 
--- ---- what is kept for a path in its owner's book, by its board, and by the clients
+-- ---- what is kept for a path in its owner's book, on the board, and by the clients
 
--- what is kept for path p, and client r's part, task and log beside it, is sound for its operation
-pub record IsSoundAt (p : List ℕ) (s : Job) (n : ℕ) (op : Op) (r : ℕ) (books : List (Book PlainHold)) (board : Board)
-    (clients : List ClientPath) (tasks : List Task) (logs : List Log) : Type 0 where
-  pub client : ClientPath
+-- what is kept for path p, and client r's part, where these lines of the client are pending, with its task and log, is sound for its
+-- operation
+pub record IsSoundAt (p : List ℕ) (s : Job) (n : ℕ) (op : Op) (r : ℕ) (books : List (Book PlainHold)) (board : KeptBoard)
+    (clients : List Client) (tasks : List Task) (logs : List Log) (lines : List ℕ) : Type 0 where
+  pub client : Client
   pub beside : slice_get clients r ≡ Some client
   pub task : Task
   pub midst : slice_get tasks r ≡ Some task
-  pub sound : EventSound s n op r (record { owned = owned_of (path_at books p) board; client = client; task = task; logs = logs })
+  pub sound : EventSound s n op r (record {
+    owned = owned_of (path_at books p) (told_in board p);
+    client = own_of client p lines;
+    task = task;
+    logs = logs;
+  })
 
 -- line n of client r, the operation op on path p, had its event, and of what is kept for the path, by the client and of the logs
--- all follows; of the books the path alone changed
-pub record FollowsAt (p : List ℕ) (s : Job) (n : ℕ) (op : Op) (r : ℕ) (books books' : List (Book PlainHold)) (board board' : Board)
-    (clients clients' : List ClientPath) (tasks tasks' : List Task) (logs logs' : List Log) (a : Option Answer) : Type 0 where
-  pub was : EventKept
-  pub now : EventKept
-  pub there : was.owned ≡ owned_of (path_at books p) board
-  pub changes : ChangesPath books books' p now.owned.path
-  pub board_is : now.owned.board ≡ board'
-  pub beside : slice_get clients r ≡ Some was.client
-  pub changed : clients' ≡ slice_set clients r now.client
-  pub midst : slice_get tasks r ≡ Some was.task
-  pub goes_on : tasks' ≡ slice_set tasks r now.task
-  pub logs_were : was.logs ≡ logs
-  pub logs_are : now.logs ≡ logs'
-  pub follows : EventFollows s n op r was now a
-  pub whole : IsWhole s op now
+-- all follows; of the books and of the client's part the path alone changed
+pub record FollowsAt (p : List ℕ) (s : Job) (n : ℕ) (op : Op) (r : ℕ) (books books' : List (Book PlainHold)) (board : KeptBoard)
+    (clients clients' : List Client) (tasks tasks' : List Task) (logs logs' : List Log) (lines : List ℕ) (a : Option Answer) : Type 0 where
+  pub was : Client
+  pub now : Client
+  pub beside : slice_get clients r ≡ Some was
+  pub changed : clients' ≡ slice_set clients r now
+  pub changes : ChangesPath books books' p (path_at books' p)
+  pub elsewhere : ChangesOwn was now p
+  pub task_was : Task
+  pub task_now : Task
+  pub midst : slice_get tasks r ≡ Some task_was
+  pub goes_on : tasks' ≡ slice_set tasks r task_now
+  pub follows : EventFollows s n op r
+      (record { owned = owned_of (path_at books p) (told_in board p); client = own_of was p lines; task = task_was; logs = logs })
+      (record {
+        owned = owned_of (path_at books' p) (told_in board p);
+        client = own_of now p (lines_then op n lines a);
+        task = task_now;
+        logs = logs';
+      }) a
+  pub whole : IsWhole s op (record {
+    owned = owned_of (path_at books' p) (told_in board p);
+    client = own_of now p (lines_then op n lines a);
+    task = task_now;
+    logs = logs';
+  })

@@ -1,7 +1,7 @@
 -- How often what is kept for a path, and for a client there, holds a piece.
 use Rattle.std.specs.Prelude.{ℕ, ◌+◌, Bool, ◌||◌, is_some, if◌then◌else◌}
 use Rattle.fs_script.specs.Vocabulary.{Piece}
-use Rattle.core_machine.specs.declared.client_path.ClientPath.{ClientPath}
+use Rattle.core_machine.specs.ClientPath.{ClientPath}
 use Rattle.core_machine.specs.declared.task.Task.{Task}
 use Rattle.core_machine.specs.Kept.{OwnedPath, file_hold, pending_hold}
 use Rattle.core_machine.specs.Task.{task_hold}

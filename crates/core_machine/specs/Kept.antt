@@ -6,24 +6,25 @@ use Rattle.owner_book.specs.Calls.{attr, version}
 use Rattle.owner_book.specs.Journals.{marked}
 use Rattle.owner_book.specs.Kept.{Book, BookFile, BookPath, held_in, no_path, path_in}
 use Rattle.owner_book.specs.declared.committed.Committed.{Committed}
-use Rattle.core_machine.specs.declared.board.Board.{Board}
-use Rattle.core_machine.specs.declared.client_path.ClientPath.{ClientPath}
-use Rattle.core_machine.specs.declared.noted.Noted.{Noted}
+use Rattle.client_files.specs.Noted.{later_of, unseen}
+use Rattle.client_files.specs.Kept.{KeptBoard, told_in}
+use Rattle.core_machine.specs.ClientPath.{ClientPath}
+use Rattle.client_files.specs.declared.noted.Noted.{Noted}
 use Rattle.core_machine.specs.declared.plain_hold.PlainHold.{PlainHold}
 use Rattle.core_machine.specs.BookFiles.{IsFile}
 use Rattle.core_machine.specs.PendingWrites.{ArePending, IsNonePending}
 use Rattle.core_machine.specs.Event.{Known, PathNow}
 
--- what the owner's book has of a path, and what all clients know of it
+-- what the owner's book has of a path, and what all clients were told of it
 pub record OwnedPath : Type 0 where
   pub path : BookPath PlainHold
-  pub board : Board
+  pub told : Noted
 
-abbrev pub owned_of : BookPath PlainHold → Board → OwnedPath
-owned_of x board = record { path = x; board = board }
+abbrev pub owned_of : BookPath PlainHold → Noted → OwnedPath
+owned_of x told = record { path = x; told = told }
 
-abbrev pub owned_in : Book PlainHold → ℕ → List ℕ → Board → OwnedPath
-owned_in book gfid p board = owned_of (path_in book gfid p) board
+abbrev pub owned_in : Book PlainHold → ℕ → List ℕ → KeptBoard → OwnedPath
+owned_in book gfid p board = owned_of (path_in book gfid p) (told_in board p)
 
 -- the marks of the file, if there is one
 abbrev pub file_marks : Option (BookFile PlainHold) → File (Option Mark)
@@ -39,18 +40,14 @@ file_hold file q = (held_in file).hold_of q
 
 -- what is known of the file at a noted version
 abbrev pub known_from : Noted → Known
-known_from n = record { exists = n.exists; frozen = false }
-
--- the one of the greater version
-abbrev pub later_of : Noted → Noted → Noted
-later_of a b = if nat_le b.version a.version then a else b
+known_from n = record { exists = n.attr.exists; frozen = n.attr.frozen }
 
 -- the lines of a client's pending writes, and the hold of a piece of them
 abbrev pub pending_lines : ClientPath → List ℕ
-pending_lines k = k.pending.lines.items
+pending_lines k = k.pending.lines
 
 abbrev pub pending_hold : ClientPath → Piece → Option PlainHold
-pending_hold k q = (held k.pending.held).hold_of q
+pending_hold k q = k.pending.held.hold_of q
 
 -- what an event of a client sees of what is kept for its path, and how many slots of its log are free
 abbrev pub kept_now : Job → OwnedPath → ClientPath → ℕ → PathNow
@@ -60,23 +57,22 @@ kept_now s x k free = record {
   version = version x.path;
   pending = pending_lines k;
   is_open = k.is_open;
-  front = (later_of k.noted x.board.told).version;
-  at_front = known_from (later_of k.noted x.board.told);
+  front = (later_of k.noted x.told).version;
+  at_front = known_from (later_of k.noted x.told);
   free = free;
 }
 
--- what is noted of a path as it is in the book: its version, and whether there is a file
+-- what is noted of a path as it is in the book: its version, and the attributes of its file
 abbrev pub noted_now : BookPath PlainHold → Noted
-noted_now x = record { version = version x; exists = (attr x).exists }
+noted_now x = record { version = version x; attr = attr x }
 
 -- what the owner's answer to a commit says of the path
 abbrev pub noted_of : Committed PlainHold → Noted
-noted_of done = record { version = done.v; exists = done.attr.exists }
+noted_of done = record { version = done.v; attr = done.attr }
 
--- the file and the pending writes are whole, and have no piece in common; and the board has what is noted of the path now
+-- the file and the pending writes are whole, and have no piece in common
 pub record AreSound (s : Job) (x : OwnedPath) (k : ClientPath) : Type 0 where
   pub written : IfSome x.path.file IsFile
-  pub board : x.board.latest ≡ noted_now x.path
   pub pending : ArePending s k.pending
   pub apart : (q : Piece) → is_some (pending_hold k q) ≡ true → file_hold x.path.file q ≡ None
 
@@ -85,16 +81,9 @@ pub record PathState : Type 0 where
   pub owned : OwnedPath
   pub clients : List ClientPath
 
--- what is noted of a path on which nothing was done, and what all clients know of it
-abbrev pub unseen : Noted
-unseen = record { version = 0; exists = false }
-
-abbrev pub fresh_board : Board
-fresh_board = record { told = unseen; latest = unseen }
-
 -- nothing was committed, and nothing is known of the path
 abbrev pub fresh_owned : OwnedPath
-fresh_owned = record { path = no_path; board = fresh_board }
+fresh_owned = record { path = no_path; told = unseen }
 
 -- the client did nothing
 pub record IsFreshClient (k : ClientPath) : Type 0 where
@@ -102,21 +91,13 @@ pub record IsFreshClient (k : ClientPath) : Type 0 where
   pub pending : IsNonePending k.pending
   pub noted : k.noted ≡ unseen
 
--- they are so many clients, none of which did anything
-pub record AreFreshClients {A : Type 0} (count : ℕ) (ks : Vec ClientPath A) : Type 0 where
-  pub sized : length ks.items ≡ count
-  pub fresh : All IsFreshClient ks.items
-
--- a board once all clients were told what is noted of the path now, and the owner's part with it
-abbrev pub board_told : Board → Board
-board_told b = record { told = b.latest; latest = b.latest }
-
+-- the owner's part, once all clients were told what is noted of the path now
 abbrev pub owner_told : OwnedPath → OwnedPath
-owner_told x = record { path = x.path; board = board_told x.board }
+owner_told x = record { path = x.path; told = noted_now x.path }
 
 -- the path, once they were told
-abbrev pub with_board : PathState → PathState
-with_board x = record { owned = owner_told x.owned; clients = x.clients }
+abbrev pub with_told : PathState → PathState
+with_told x = record { owned = owner_told x.owned; clients = x.clients }
 
 -- nothing was committed to the path, and of so many clients none did anything
 pub record IsFreshPath (count : ℕ) (x : PathState) : Type 0 where

@@ -14,6 +14,7 @@ pub mod Logs
 pub mod Settling
 pub mod StandingLogs
 pub mod Task
+pub mod ClientPath
 pub mod Kept
 pub mod HoldsKept
 pub mod Books

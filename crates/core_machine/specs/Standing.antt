@@ -7,12 +7,12 @@ use Rattle.slot_plain.specs.Log.{Log}
 use Rattle.fs_script.specs.Vocabulary.{Given, answer_at, Job, Piece, need, op_at, own_at, phase, Answering}
 use Rattle.fs_script.specs.Vocabulary.{pending, marks_at, is_open, seen, past_lines, ArePaths}
 use Rattle.fs_script.specs.declared.line.OpLine.{OpLine}
-use Rattle.core_machine.specs.declared.client_path.ClientPath.{ClientPath}
+use Rattle.core_machine.specs.ClientPath.{ClientPath}
 use Rattle.core_machine.specs.declared.task.Task.{Task}
 use Rattle.core_machine.specs.Event.{known_of}
 use Rattle.core_machine.specs.BookFiles.{IsFile}
 use Rattle.core_machine.specs.Follows.{KnowsLookedUp, LookedUpWithin, MayBeIn}
-use Rattle.core_machine.specs.Kept.{OwnedPath, PathState, noted_now, file_hold, file_marks, known_from, pending_hold, pending_lines}
+use Rattle.core_machine.specs.Kept.{OwnedPath, PathState, file_hold, file_marks, known_from, pending_hold, pending_lines}
 use Rattle.core_machine.specs.LegalSoFar.{CanRun, IsAnsweredUpTo}
 use Rattle.core_machine.specs.Logs.{HoldsStand}
 use Rattle.core_machine.specs.MomentKept.{moment_of}
@@ -34,16 +34,14 @@ pub record IsPieceOn (s : Job) (A : Answering) (p : List ℕ) (q : Piece) : Type
   pub by_client : IsPieceBy s A client p q
 
 -- the owner's part: all lines of the journal were answered, the file is what they make, of pieces that were written to the
--- path, and the board has what is noted of the path now, and how many lines of it are of earlier phases than the run's, with
--- what is known of the file then, which all clients were told
+-- path, and all clients were told how many lines of it are of earlier phases than the run's, with what is known of the file then
 pub record StandsForOwner (s : Job) (A : Answering) (now : ℕ) (p : List ℕ) (x : OwnedPath) : Type 0 where
   pub answered : AllByRecursion (λ m. IsSome (A m)) x.path.journal
   pub written : IfSome x.path.file IsFile
   pub marks : file_marks x.path.file ≡ marks_at s A x.path.journal (length x.path.journal)
   pub pieces : (q : Piece) → is_some (file_hold x.path.file q) ≡ true → IsPieceOn s A p q
-  pub board : x.board.latest ≡ noted_now x.path
-  pub told : x.board.told.version ≡ count_by (λ m. nat_lt (phase s m) now) x.path.journal
-  pub known : known_from x.board.told ≡ known_of (marks_at s A x.path.journal x.board.told.version)
+  pub told : x.told.version ≡ count_by (λ m. nat_lt (phase s m) now) x.path.journal
+  pub known : known_from x.told ≡ known_of (marks_at s A x.path.journal x.told.version)
 
 -- client r's part of path p: whether it is open, what is pending, of pieces that the client wrote to the path and that aren't in
 -- the file, and the greatest version seen with what is known of the file

@@ -26,16 +26,16 @@ pub use Rattle.core_machine.specs.Settling.{FillsLog, LogsFollow, Settles}
 pub use Rattle.core_machine.specs.StandingLogs.{IsLogOf, StandsForLogs, StandsForSlot}
 pub use Rattle.core_machine.specs.Task.{IsReadTask, IsTask, doing_of, marks_of_task, reading_of, task_hold}
 pub use Rattle.owner_book.specs.Kept.{Book, BookFile, BookPath, no_path}
-pub use Rattle.core_machine.specs.declared.board.Board.{Board}
+pub use Rattle.client_files.specs.Kept.{KeptBoard, told_in}
 pub use Rattle.core_machine.specs.Books.{ChangesPath, path_at}
-pub use Rattle.core_machine.specs.declared.pending.Pending.{Pending}
 pub use Rattle.core_machine.specs.declared.plain_hold.PlainHold.{PlainHold}
 pub use Rattle.core_machine.specs.declared.task.Task.{Task}
 pub use Rattle.core_machine.specs.declared.task.Task.TheVariants.{Idle, Read}
 pub use Rattle.core_machine.specs.Kept.{file_hold, file_marks, file_of, pending_hold, pending_lines}
 pub use Rattle.core_machine.specs.Kept.{IsFreshClient, IsFreshPath, AreSound, OwnedPath}
-pub use Rattle.core_machine.specs.Kept.{board_told, fresh_board, fresh_owned, known_from, noted_now, owned_in, unseen}
-pub use Rattle.core_machine.specs.Kept.{PathState, owner_told, with_board, kept_now, later_of}
+pub use Rattle.client_files.specs.Noted.{later_of, unseen}
+pub use Rattle.core_machine.specs.Kept.{fresh_owned, known_from, noted_now, owned_in}
+pub use Rattle.core_machine.specs.Kept.{PathState, owner_told, with_told, kept_now}
 pub use Rattle.core_machine.specs.LegalSoFar.{HasClients, CanRun, IsUnderWay, MayGoOn, IsLegalMoment, Reaches, IsAnsweredUpTo}
 pub use Rattle.core_machine.specs.Moment.{Client, Moment, fresh_client, ready, printed, answering, client_of, journal, IsFirst, has_begun}
 pub use Rattle.core_machine.specs.Moment.{may_come, next_line, with_entry, file_now, marks_now, log_of}
@@ -51,7 +51,8 @@ pub use Rattle.core_machine.specs.Slots.{census, held_pieces, HoldsExactly}
 pub use Rattle.core_machine.specs.Step.{Turn, step, path_now, answers_with, logs_with, had_event, after_event}
 pub use Rattle.core_machine.specs.Step.{event_at, step_line, step_at, after_turn, event_of}
 pub use Rattle.core_machine.specs.Turns.{Places, next_in, going, IsInPhase, is_of_phase, after_line}
-pub use Rattle.core_machine.specs.declared.noted.Noted.{Noted}
-pub use Rattle.core_machine.specs.declared.client_path.ClientPath.{ClientPath}
+pub use Rattle.client_files.specs.declared.noted.Noted.{Noted}
+pub use Rattle.core_machine.specs.ClientPath.{ChangesOwn, ClientPath, Pending, lines_then, own_of, pending_of}
+pub use Rattle.core_machine.specs.declared.client.Client.{Client as KeptClient}
 pub use Rattle.core_machine.specs.declared.program.Program.{Program}
 pub use Rattle.core_machine.specs.declared.turns.Turns.TheInside.{Inside}

@@ -3,9 +3,8 @@
 //! logs were given, and nothing else outside memory.
 #![tactic(auto)]
 
-mod board;
 mod books;
-mod client_path;
+mod client;
 mod digest;
 mod event;
 mod fetching;
@@ -13,9 +12,7 @@ mod file_state;
 mod laws;
 mod logs;
 mod machine;
-mod noted;
 mod path_table;
-mod pending;
 mod pins;
 mod plain_hold;
 mod program;

@@ -1,31 +1,34 @@
 //! What a run keeps, and its events: each is one of the machine of moments.
 
-ghost use Rattle.std.specs.Prelude.{◌≡◌, ◌*◌, ◌<◌, ◌≤◌, true, false, Some, slice_get, length, map, Contains, All, IsSome, IfOk, OnOk, OnErr};
+ghost use Rattle.std.specs.Prelude.{◌≡◌, ◌*◌, ◌<◌, ◌≤◌, ℕ, List, [], true, false, Some, slice_get, length, map, Contains, All, IfOk, OnOk, OnErr};
+ghost use Rattle.std.specs.Option.{option_copied};
 ghost use Rattle.fs_script.specs.Job.{op_at};
 ghost use Rattle.fs_script.specs.Grammar.{IsJob};
-ghost use Rattle.core_machine.specs.EventsLeft.{events_left};
-ghost use Rattle.core_machine.specs.Moment.{IsFirst, ready};
-ghost use Rattle.core_machine.specs.Step.{step};
-ghost use Rattle.core_machine.specs.Kept.{AreFreshClients};
-ghost use Rattle.core_machine.specs.Follows.{FollowsAt, IsSoundAt};
-ghost use Rattle.core_machine.specs.Books.{path_at};
-ghost use Rattle.core_machine.specs.PathStates.{AreKept, states_of};
-ghost use Rattle.core_machine.specs.Turns.{after_line, going, turns_then, IsInPhase};
-ghost use Rattle.core_machine.specs.MomentKept.{moment_of};
-ghost use Rattle.core_machine.specs.Logs.{device_state};
-ghost use Rattle.core_machine.specs.Standing.{Holds};
+ghost use Rattle.client_files.specs.Kept.{told_in};
+ghost use Rattle.client_files.specs.PathMap.{Changes};
+ghost use Rattle.core_machine.specs.Books.{ChangesPath, path_at};
 ghost use Rattle.core_machine.specs.Core.{IsRun, moment, states};
+ghost use Rattle.core_machine.specs.EventsLeft.{events_left};
+ghost use Rattle.core_machine.specs.Follows.{FollowsAt, IsSoundAt};
+ghost use Rattle.core_machine.specs.Kept.{noted_now};
+ghost use Rattle.core_machine.specs.Logs.{device_state};
+ghost use Rattle.core_machine.specs.Moment.{IsFirst, ready};
+ghost use Rattle.core_machine.specs.MomentKept.{moment_of};
+ghost use Rattle.core_machine.specs.PathStates.{AreKept, AreToldBut};
+ghost use Rattle.core_machine.specs.Standing.{Holds};
+ghost use Rattle.core_machine.specs.Step.{step};
+ghost use Rattle.core_machine.specs.Turns.{after_line, going, turns_then, IsInPhase};
 
 mod report;
 
-use crate::board::{Board, fresh_boards, tell_all};
 use crate::books::{Book, new_books};
-use crate::client_path::{ClientPath, fresh_clients};
+use crate::client::{Client, fresh_clients};
 use crate::event;
 use crate::logs::new_logs;
 use crate::path_table::PathTable;
 use crate::task::{Task, idle_tasks};
 use crate::turns::Turns;
+use client_files::Board;
 use fs_dev::SpillDev;
 use fs_script::{Line, OpLine, Script};
 use fs_types::{Answer, Answers, LineNo, Path, Rank, Want};
@@ -42,10 +45,12 @@ pub struct Run<'s, D: SpillDev + Drop> {
     pub paths: PathTable,
     /// What each server has of the paths that it owns.
     pub books: Vec<Book>,
-    /// For each path, at its place in the table, what all clients know of it.
-    pub boards: Vec<Board>,
-    /// For each path, at its place in the table, what each client keeps for it, by rank.
-    pub clients: Vec<Vec<ClientPath>>,
+    /// What all clients were told of paths.
+    pub board: Board,
+    /// The lines that came to their end since they were told last.
+    pub ended: Vec<LineNo>,
+    /// What each client keeps, by rank.
+    pub clients: Vec<Client>,
     /// What each client is in the midst of, by rank.
     pub tasks: Vec<Task>,
     /// The log of each client, by rank.
@@ -58,37 +63,13 @@ pub struct Run<'s, D: SpillDev + Drop> {
     pub spent: bool,
 }
 
-// For each of so many paths, what so many clients keep for it that did nothing.
-fn fresh_clients_of(alloc: Global, paths: usize, clients: u32) -> Result<Vec<Vec<ClientPath>>, Want>
-    ensures { IfOk result (λ v. (length v.items ≡ paths) × All (AreFreshClients clients) v.items) }
-{
-    let mut each = Vec::with_capacity(alloc, paths)?;
-    for _ in 0..paths {
-        each.push(fresh_clients(alloc, clients)?)?;
-    }
-    Ok(each)
-}
-
-// The operation of a line that is one.
-fn operation(s: &Script, n: LineNo) -> &OpLine
-    requires { IsSome (op_at s.now n) }
-    ensures { op_at s.now n ≡ Some result.now }
+// The operation of line `n`, if that is one.
+fn operation(s: &Script, n: LineNo) -> Option<&OpLine>
+    ensures { option_copied result ≡ op_at s.now n }
 {
     match s.line(n) {
-        Some(Line::Op(o)) => o,
-        _ => unreachable!(),
-    }
-}
-
-// The place of a path that the script names.
-fn place(paths: &PathTable, p: &Path) -> usize
-    requires { Contains paths.now p.now }
-    ensures there { slice_get paths.now result ≡ Some p.now }
-    ensures within { result < length paths.now }
-{
-    match paths.index_of(p) {
-        Some(i) => i,
-        None => unreachable!(),
+        Some(Line::Op(o)) => Some(o),
+        _ => None,
     }
 }
 
@@ -109,8 +90,8 @@ pub fn first_run<'s, D: SpillDev + Drop>(
     let shape = s.shape();
     let paths = PathTable::of_script(alloc, s)?;
     let books = new_books(alloc, shape.servers)?;
-    let boards = fresh_boards(alloc, paths.len())?;
-    let clients = fresh_clients_of(alloc, paths.len(), shape.clients)?;
+    let board = Board::new(alloc)?;
+    let clients = fresh_clients(alloc, shape.clients, shape.chunk)?;
     let tasks = idle_tasks(alloc, shape.clients)?;
     let mut room = devices;
     let logs = new_logs(alloc, s, &mut room)?;
@@ -121,7 +102,8 @@ pub fn first_run<'s, D: SpillDev + Drop>(
         script: s,
         paths,
         books,
-        boards,
+        board,
+        ended: Vec::new(alloc),
         clients,
         tasks,
         logs,
@@ -132,105 +114,175 @@ pub fn first_run<'s, D: SpillDev + Drop>(
     })
 }
 
-// The event of line `n`, for whose path this is the board, and the clients keep this. After want of
-// memory what is kept for the path and for the client, and the logs, are open.
+// The event of line `n`. After want of memory what is kept for its path and for the client, and the
+// logs, are open.
 fn event_on_path<D: SpillDev + Drop>(
     alloc: Global,
     s: &Script,
     n: LineNo,
     o: &OpLine,
     books: &mut [Book],
-    board: &mut Board,
-    clients: &mut [ClientPath],
+    board: &Board,
+    clients: &mut [Client],
     tasks: &mut [Task],
     logs: &mut [PlainLog<D>],
 ) -> Result<Option<Answer>, Want>
     requires line { op_at s.now n ≡ Some o.now }
-    requires servers { length books.old ≡ s.now.shape.servers }
-    requires sound { IsSoundAt o.now.path s.now n o.now.op o.now.rank
-        books.old board.old clients.old tasks.old logs.old }
-    ensures sized { length books.new ≡ length books.old }
-    ensures follows { IfOk result (λ a. FollowsAt o.now.path s.now n o.now.op o.now.rank
-        books.old books.new board.old board.new
-        clients.old clients.new tasks.old tasks.new logs.old logs.new a) }
+    requires kept { AreKept s.now books.old clients.old }
+    requires sound { (lines : List ℕ) × IsSoundAt o.now.path s.now n o.now.op o.now.rank
+        books.old board.now clients.old tasks.old logs.old lines }
+    ensures kept { AreKept s.now books.new clients.new }
+    ensures changes { ChangesPath books.old books.new o.now.path (path_at books.new o.now.path) }
+    ensures follows { (lines : List ℕ) → IsSoundAt o.now.path s.now n o.now.op o.now.rank
+        books.old board.now clients.old tasks.old logs.old lines
+        → IfOk result (λ a. FollowsAt o.now.path s.now n o.now.op o.now.rank
+        books.old books.new board.now clients.old clients.new tasks.old tasks.new
+        logs.old logs.new lines a) }
 {
     let gfid = gfid_of(&o.path);
     let owner = owner_of(gfid, s.shape().servers);
     let book = &mut books[owner.0 as usize];
     let r = o.rank;
     let at = r.0 as usize;
-    let own = &mut clients[at];
-    event::event(alloc, s, n, o, book, gfid, board, own, &mut tasks[at], logs)
+    let client = &mut clients[at];
+    event::event(
+        alloc,
+        s,
+        n,
+        o,
+        book,
+        gfid,
+        board,
+        client,
+        &mut tasks[at],
+        logs,
+    )
 }
 
 // One event of the next line of a client that goes; whether the line was answered. After want of
 // memory what is kept for that line's path and for the client, and the logs, are open.
-fn event_of_line<D: SpillDev + Drop>(
-    alloc: Global,
-    s: &Script,
-    paths: &PathTable,
-    books: &mut [Book],
-    boards: &mut [Board],
-    clients: &mut [Vec<ClientPath>],
-    tasks: &mut [Task],
-    logs: &mut [PlainLog<D>],
-    answers: &mut Answers,
-    turns: &Turns<'_>,
-    r: Rank,
-) -> Result<bool, Want>
-    requires kept { AreKept s.now.shape.servers paths.now books.old boards.old clients.old }
-    requires holds { Holds s.now paths.now
-        (states_of (path_at books.old) paths.now boards.old clients.old)
-        answers.old turns.now tasks.old logs.old }
-    requires going { Contains (going turns.now) r }
-    ensures kept { AreKept s.now.shape.servers paths.now books.new boards.new clients.new }
-    ensures sized { length logs.new ≡ length logs.old }
-    ensures holds { IfOk result (λ ended. Holds s.now paths.now
-        (states_of (path_at books.new) paths.now boards.new clients.new)
-        answers.new (turns_then ended r turns.now) tasks.new logs.new) }
-    ensures step { IfOk result (λ ended. moment_of s.now paths.now
-        (states_of (path_at books.new) paths.now boards.new clients.new)
-        answers.new (turns_then ended r turns.now) tasks.new logs.new false
-        ≡ step (moment_of s.now paths.now
-        (states_of (path_at books.old) paths.now boards.old clients.old)
-        answers.old turns.now tasks.old logs.old false) (record { client = r })) }
+fn event_of_line<D: SpillDev + Drop>(run: &mut Run<'_, D>, r: Rank) -> Result<bool, Want>
+    requires run { IsRun run.old }
+    requires unspent { run.old.spent ≡ false }
+    requires going { Contains (going run.old.turns) r }
+    ensures kept { AreKept run.new.script.now run.new.books.items run.new.clients.items }
+    ensures sized { length run.new.logs.items ≡ length run.old.logs.items }
+    ensures told { OnOk result (AreToldBut run.new.script.now run.new.ended.items run.new.board
+        run.new.books.items) }
+    ensures holds { IfOk result (λ answered. Holds run.new.script.now run.new.paths
+        (states run.new) run.new.answers (turns_then answered r run.new.turns)
+        run.new.tasks.items run.new.logs.items) }
+    ensures step { IfOk result (λ answered. moment_of run.new.script.now run.new.paths
+        (states run.new) run.new.answers (turns_then answered r run.new.turns)
+        run.new.tasks.items run.new.logs.items false
+        ≡ step (moment run.old) (record { client = r })) }
+    ensures rest { run.new ≡ record run.old {
+      books = run.new.books;
+      ended = run.new.ended;
+      clients = run.new.clients;
+      tasks = run.new.tasks;
+      logs = run.new.logs;
+      answers = run.new.answers;
+    } }
 {
-    let n = turns.next(r);
-    let o = operation(s, n);
-    let i = place(paths, &o.path);
-    let kept = &mut clients[i];
-    match event_on_path(alloc, s, n, o, books, &mut boards[i], kept, tasks, logs)? {
+    let n = run.turns.next(r);
+    let Some(o) = operation(run.script, n) else {
+        unreachable!()
+    };
+    let answer = event_on_path(
+        run.alloc,
+        run.script,
+        n,
+        o,
+        &mut run.books,
+        &run.board,
+        &mut run.clients,
+        &mut run.tasks,
+        &mut run.logs,
+    )?;
+    match answer {
         Some(answer) => {
-            answers.set(n, answer);
+            run.answers.set(n, answer);
+            run.ended.push(n)?;
             Ok(true)
         }
         None => Ok(false),
     }
 }
 
-// Goes on to the next line of a client, and where that begins a phase, tells all clients of every
-// path.
-fn go_on<D: SpillDev + Drop>(run: &mut Run<'_, D>, r: Rank)
-    requires kept { AreKept run.old.script.now.shape.servers run.old.paths run.old.books.items
-        run.old.boards.items run.old.clients.items }
+// Tells all clients of a path what its owner has.
+fn tell_path(
+    alloc: Global,
+    s: &Script,
+    books: &[Book],
+    board: &mut Board,
+    p: &Path,
+) -> Result<(), Want>
+    requires { length books.now ≡ s.now.shape.servers }
+    ensures { OnOk result (Changes (told_in board.old) (told_in board.new) p.now
+        (noted_now (path_at books.now p.now))) }
+{
+    let gfid = gfid_of(p);
+    let owner = owner_of(gfid, s.shape().servers);
+    let (v, attr) = books[owner.0 as usize].attr(gfid, p);
+    board.set(alloc, p, v, attr)
+}
+
+// Tells all clients of the paths of these lines, where they know of every other.
+fn tell(
+    alloc: Global,
+    s: &Script,
+    books: &[Book],
+    board: &mut Board,
+    ended: &[LineNo],
+) -> Result<(), Want>
+    requires servers { length books.now ≡ s.now.shape.servers }
+    requires told { AreToldBut s.now ended.now board.old books.now }
+    ensures { OnOk result (AreToldBut s.now [] board.new books.now) }
+{
+    for n in ended {
+        if let Some(o) = operation(s, *n) {
+            tell_path(alloc, s, books, board, &o.path)?;
+        }
+    }
+    Ok(())
+}
+
+// Goes on to the next line of a client, and where that begins a phase, tells all clients of the paths
+// of the lines that ended since they were told. After want of memory what was told is open.
+fn go_on<D: SpillDev + Drop>(run: &mut Run<'_, D>, r: Rank) -> Result<(), Want>
+    requires kept { AreKept run.old.script.now run.old.books.items run.old.clients.items }
+    requires told { AreToldBut run.old.script.now run.old.ended.items run.old.board
+        run.old.books.items }
     requires going { Contains (going run.old.turns) r }
     requires holds { Holds run.old.script.now run.old.paths (states run.old) run.old.answers
         (after_line run.old.turns r) run.old.tasks.items run.old.logs.items }
     requires unspent { run.old.spent ≡ false }
-    ensures kept { AreKept run.new.script.now.shape.servers run.new.paths run.new.books.items
-        run.new.boards.items run.new.clients.items }
     ensures phases { IsInPhase run.new.turns }
-    ensures holds { Holds run.new.script.now run.new.paths (states run.new) run.new.answers
-        run.new.turns run.new.tasks.items run.new.logs.items }
-    ensures unspent { run.new.spent ≡ false }
-    ensures moment { moment run.new
+    ensures told { OnOk result (AreToldBut run.new.script.now run.new.ended.items run.new.board
+        run.new.books.items) }
+    ensures holds { OnOk result (Holds run.new.script.now run.new.paths (states run.new)
+        run.new.answers run.new.turns run.new.tasks.items run.new.logs.items) }
+    ensures moment { OnOk result (moment run.new
         ≡ moment_of run.old.script.now run.old.paths (states run.old) run.old.answers
-        (after_line run.old.turns r) run.old.tasks.items run.old.logs.items false }
-    ensures rest { run.new ≡ record run.old { boards = run.new.boards; turns = run.new.turns } }
+        (after_line run.old.turns r) run.old.tasks.items run.old.logs.items false) }
+    ensures rest { run.new ≡ record run.old {
+      board = run.new.board;
+      ended = run.new.ended;
+      turns = run.new.turns;
+    } }
 {
     if run.turns.advance(r) {
-        tell_all(&mut run.boards);
+        tell(
+            run.alloc,
+            run.script,
+            &run.books,
+            &mut run.board,
+            &run.ended,
+        )?;
+        run.ended.clear();
     }
+    Ok(())
 }
 
 /// One event of a client that is ready.
@@ -242,27 +294,18 @@ pub fn advance<D: SpillDev + Drop>(run: &mut Run<'_, D>, r: Rank) -> Result<(), 
     ensures nearer { OnOk result (events_left (moment run.new) < events_left (moment run.old)) }
     ensures spent { OnErr result (run.new.spent ≡ true) }
 {
-    match event_of_line(
-        run.alloc,
-        run.script,
-        &run.paths,
-        &mut run.books,
-        &mut run.boards,
-        &mut run.clients,
-        &mut run.tasks,
-        &mut run.logs,
-        &mut run.answers,
-        &run.turns,
-        r,
-    ) {
+    match event_of_line(run, r) {
         Ok(true) => {
-            go_on(run, r);
+            if let Err(want) = go_on(run, r) {
+                run.spent = true;
+                return Err(want);
+            }
             Ok(())
         }
         Ok(false) => Ok(()),
-        Err(e) => {
+        Err(want) => {
             run.spent = true;
-            Err(e)
+            Err(want)
         }
     }
 }

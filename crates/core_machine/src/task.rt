@@ -3,7 +3,7 @@
 ghost use Rattle.std.specs.Prelude.{◌≡◌, replicate, IfOk};
 
 use crate::plain_hold::PlainHold;
-use fs_types::{Frag, Version, Want};
+use fs_types::{Attr, Frag, Version, Want};
 use piece_table::PieceTable;
 use std::alloc::Global;
 
@@ -12,6 +12,8 @@ use std::alloc::Global;
 pub struct ReadTask {
     /// The version that it looked up.
     pub version: Version,
+    /// The attributes of the file there.
+    pub attr: Attr,
     /// The runs of bytes that it fetches, with their places counted from the first byte shown.
     pub runs: Vec<Frag>,
     /// A hold of each piece that the runs are of.

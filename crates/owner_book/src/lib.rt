@@ -78,7 +78,7 @@ pub use laws::{
     lookups_name_the_marks_of_their_range,
 };
 pub use looked::Looked;
-pub use looking::next_part;
+pub use looking::part_within;
 
 #[cfg(test)]
 mod tests;

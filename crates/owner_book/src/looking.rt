@@ -1,10 +1,11 @@
 //! Parts of fragments in a range, the pieces that they name, and pins of those.
 
-ghost use Rattle.std.specs.Prelude.{◌≡◌, ◌≤◌, ◌<◌, ◌+◌, [], ◌∷◌, All, AllPairs, Some, IsSome, IfOk};
+ghost use Rattle.std.specs.Prelude.{List, ◌≡◌, ◌≤◌, ◌<◌, ◌+◌, [], ◌∷◌, All, AllPairs, Some, IsSome, IfOk};
 ghost use Rattle.std.specs.Prelude.{OnOk, OnErr, IfSome, MatchOption, length, vec_len};
 ghost use Rattle.std.specs.Prelude.{vec_capacity, false};
 ghost use Rattle.fs_types.specs.Fragments.{end_of, piece_eq};
-ghost use Rattle.span_list.specs.Spans.{IsSpan};
+ghost use Rattle.fs_types.specs.Pieces.{Fragment};
+ghost use Rattle.span_list.specs.Spans.{AreSpans, IsSpan, next_fragment};
 ghost use Rattle.piece_table.specs.HeldSpans.{AreHeld, held};
 ghost use Rattle.owner_book.specs.Lookups.{Asks, AsksOne, MayAsk, Pins, parts_in, pieces_named};
 
@@ -14,19 +15,18 @@ use piece_table::HeldSpans;
 use span_list::{Spans, rest_before, rest_from};
 use std::alloc::Global;
 
-/// What of the first fragment with bytes in a range stands there, if any does.
-pub fn next_part<H: Hold + Drop, S: Spans>(
-    held: &HeldSpans<H, S>,
-    from: u64,
-    to: u64,
-) -> Option<Frag>
-    ensures next { MatchOption result (parts_in from to held.now.fragments ≡ [])
-        (λ f. parts_in from to held.now.fragments ≡ f ∷ parts_in (end_of f) to held.now.fragments) }
+/// What stands in a range of the first of some fragments that ends behind its beginning, if
+/// anything does.
+pub fn part_within(next: Option<Frag>, from: u64, to: u64) -> Option<Frag>
+    requires spans { (fs : List Fragment) × AreSpans fs × (next ≡ next_fragment from fs) }
+    ensures next { (fs : List Fragment) → AreSpans fs → next ≡ next_fragment from fs
+        → MatchOption result (parts_in from to fs ≡ [])
+        (λ f. parts_in from to fs ≡ f ∷ parts_in (end_of f) to fs) }
     ensures forward { IfSome result (λ f. from < end_of f) }
     ensures within { IfSome result (λ f. end_of f ≤ to) }
     ensures span { IfSome result IsSpan }
 {
-    let f = held.next(from)?;
+    let f = next?;
     rest_from(rest_before(f, to)?, from)
 }
 
@@ -41,7 +41,7 @@ pub fn parts<H: Hold + Drop, S: Spans>(
 {
     let mut parts = Vec::new(alloc);
     let mut at = from;
-    while let Some(part) = next_part(held, at, to) {
+    while let Some(part) = part_within(held.next(at), at, to) {
         at = part.at + part.len;
         parts.push(part)?;
     }

@@ -46,7 +46,7 @@ pub record IsOwn (s : Job) (A : Answering) (r : ℕ) (p : List ℕ) (n : ℕ) (o
   pub within : n < past_lines s
 
 -- its answer is one step more
-over_answers-own : {X : Type 0} (step : Op → Answer → ℕ → X
+pub over_answers-own : {X : Type 0} (step : Op → Answer → ℕ → X
     → X) (x : X) {s : Job} {A B : Answering} {r : ℕ} {p : List ℕ} {n : ℕ} {o : OpLine} {a : Answer}
     → AddsAnswer A n a B → IsOwn s A r p n o → over_answers step x s B r p (past_lines s)
     ≡ step o.op a n (over_answers step x s A r p (past_lines s))
@@ -68,15 +68,14 @@ pub StandsForClient-own : {s : Job} {A B : Answering} {now n : ℕ} {o : OpLine}
 StandsForClient-own {s} {A} {B} {now} {n} {o} {t} {e} {a} {x} {y} {k} {l} h own follows sound parts owned owns within looked stands =
     let J = x.path.journal in
     let commits = e.commits in
-    let told : x.board.told.version ≤ length J = subst (λ v. v ≤ length J) (sym owned.told) (told-within s J now) in
+    let told : x.told.version ≤ length J = subst (λ v. v ≤ length J) (sym owned.told) (told-within s J now) in
     let at = λ (v : ℕ). known_of (marks_at s B y.path.journal v) in
     let at_old : (v : ℕ) → v ≤ length J → known_of (marks_at s A J v) ≡ at v =
     λ v le. ap known_of (marks-grown J v commits h.adds h.next owned.answered le
     ∙ ap (λ (j : List ℕ). marks_at s B j v) (sym follows.journal)) in
-    let board : known_from y.board.told ≡ at y.board.told.version = owns.known in
     let knows : Knows at y k = record {
       noted = stands.known ∙ at_old k.noted.version stands.within;
-      board = board;
+      board = owns.known;
       now = ap known_of owns.marks;
     } in
     record {

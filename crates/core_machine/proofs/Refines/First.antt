@@ -11,6 +11,7 @@ use Rattle.fs_script.specs.Grammar.{IsJob, IsShape}
 use Rattle.fs_script.specs.declared.shape.Shape.{Shape}
 use Rattle.fs_script.proofs.CallerLemmas.{IsOpLine-from_job}
 use Rattle.core_machine.specs.Logs.{fresh_log, fresh_logs}
+use Rattle.core_machine.specs.PathStates.{pending_after}
 use Rattle.core_machine.specs.Vocabulary.{OwnedPath, ClientPath, PathState, Task, Idle, fresh_owned, IsFreshClient, IsFreshPath}
 use Rattle.core_machine.specs.Vocabulary.{CanRun, IsFirst, Places}
 use Rattle.core_machine.specs.Vocabulary.{clients_of, file_hold, file_marks, fresh_client, known_from, known_of, holds_of, moment_of}
@@ -40,6 +41,10 @@ no_spill {h} is =
 abbrev none : Answering
 none = answer_at []
 
+-- no line is pending after no answers
+pub none-pending : (s : Job) (r : ℕ) (p : List ℕ) → pending_after s none r p ≡ []
+none-pending s r p = over_answers-until _ _ s r p none 0 (past_lines s) (omega arith) (λ _ _ _. refl)
+
 no_file : (x : OwnedPath) (q : Piece) → x.path.file ≡ None → is_some (file_hold x.path.file q) ≡ true → ⊥
 no_file x q none held = true≢false (sym held ∙ ap (λ f. is_some (file_hold f q)) none)
 
@@ -49,7 +54,6 @@ owner-fresh s now p fresh = subst (StandsForOwner s none now p) (sym fresh) (rec
   written = tt;
   marks = refl;
   pieces = λ q held. absurd (no_file fresh_owned q refl held);
-  board = refl;
   told = refl;
   known = refl;
 })
@@ -58,8 +62,7 @@ client-fresh : (s : Job) (r : ℕ) (p : List ℕ) {x : OwnedPath} {k : ClientPat
     → StandsForClient s none r p x k
 client-fresh s r p {x} {k} owned fresh = record {
   opened = fresh.is_open ∙ sym (over_answers-until _ _ s r p none 0 (past_lines s) (omega arith) (λ _ _ _. refl));
-  pending = nil_from_length (pending_lines k) fresh.pending.lines
-      ∙ sym (over_answers-until _ _ s r p none 0 (past_lines s) (omega arith) (λ _ _ _. refl));
+  pending = nil_from_length (pending_lines k) fresh.pending.lines ∙ sym (none-pending s r p);
   whole = pending-none s k.pending fresh.pending;
   pieces = λ q waits. absurd (true≢false (sym waits ∙ ap is_some (fresh.pending.holds q)));
   apart = λ q waits. absurd (true≢false (sym waits ∙ ap is_some (fresh.pending.holds q)));

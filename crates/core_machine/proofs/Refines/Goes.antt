@@ -1,12 +1,13 @@
 -- A client that goes: it is one of the job's, and its next line is of the run's phase. An event of it leaves the run's moment one
 -- of a legal run, with fewer events left.
 use Rattle.fs_types.proofs.Common.{◌≡◌, ℕ, ◌<◌, Bool, true, false, List, [], Some, Contains, slice_index, slice_get, refl, sym, ap}
-use Rattle.fs_types.proofs.Common.{◌∙◌, subst, arith, same_Some}
+use Rattle.fs_types.proofs.Common.{◌∙◌, subst, arith, same_Some, length, Bor, Global, Vec, vec_capacity}
 use Rattle.fs_script.specs.Vocabulary.{Given, Job, phase, program}
 use Rattle.slot_plain.specs.Log.{Log}
 use Rattle.core_machine.specs.Vocabulary.{PathState, Places, IsInPhase, going, next_in, ready, moment_of, Holds, Task}
 use Rattle.core_machine.specs.Core.{IsRun, states}
 use Rattle.core_machine.specs.Vocabulary.{HasClients, IsLegalMoment, Moment, events_left, moment, step}
+use Rattle.core_machine.specs.PathStates.{AreKept, AreToldBut}
 use Rattle.core_machine.specs.declared.run.Run.{Run}
 use Rattle.core_machine.proofs.Legal.EventsLeft.{events_left-falls}
 use Rattle.core_machine.proofs.Legal.LegalSteps.{step-legal}
@@ -51,3 +52,20 @@ module _ {D : Type 0} {old : Run D} (r : ℕ) (run : IsRun old) (may : Contains 
   pub nearer : (m : Moment) → m ≡ step (moment old) (record { client = r }) → events_left m < events_left (moment old)
   nearer m then = subst (λ (x : Moment). events_left x < events_left (moment old)) (sym then)
       (events_left-falls (record { client = r }) (run.legal [] (not_spent r run may)) may)
+
+  -- and a run that kept its script, its devices and as many logs goes on, or is spent
+  pub IsRun-on : {new : Run D} → new.script ≡ old.script → new.devices ≡ old.devices → length new.logs.items ≡ length old.logs.items
+      → AreKept new.script.now new.books.items new.clients.items → IsInPhase new.turns
+      → (new.spent ≡ false → AreToldBut new.script.now new.ended.items new.board new.books.items)
+      → (new.spent ≡ false → Holds new.script.now new.paths (states new) new.answers new.turns new.tasks.items new.logs.items)
+      → (new.spent ≡ false → moment new ≡ step (moment old) (record { client = r })) → IsRun new
+  IsRun-on {new} script devices sized kept phases told holds then = record {
+    kept = kept;
+    told = told;
+    phases = phases;
+    holds = holds;
+    legal = λ told going. legal-then (moment new) (then going) told;
+    logged = sized ∙ run.logged ∙ ap (λ (x : Bor Job). x.now.shape.clients) (sym script);
+    no_device = ap (λ (v : Vec D Global). v.items) devices ∙ run.no_device;
+    room = omega (arith, sized, ap (λ (v : Vec D Global). vec_capacity v) devices, run.room);
+  }

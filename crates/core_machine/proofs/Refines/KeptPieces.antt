@@ -9,6 +9,6 @@ pub file-bears : (f : Option (BookFile PlainHold)) (q : Piece) → IfSome f IsFi
 file-bears None q is = refl
 file-bears (Some f) q is = is.are_held.named q ∙ is_named-bears f.held.fragments f.size q is.are_held.spans is.within
 
-pub pending-bears : {s : Job} (p : Pending) (q : Piece) → ArePending s p → is_some ((held p.held).hold_of q) ≡ bears (marks_put s p.lines.items) q
+pub pending-bears : {s : Job} (p : Pending) (q : Piece) → ArePending s p → is_some (p.held.hold_of q) ≡ bears (marks_put s p.lines) q
 pending-bears p q are =
     are.are_held.named q ∙ is_named-bears p.held.fragments p.end q are.are_held.spans are.within ∙ ap (λ ms. bears ms q) are.marks

@@ -98,7 +98,7 @@ module _ {s : Job} {paths : List (List ℕ)} {states : List PathState} {answers 
     own_pieces q waits = (client_stood t).pieces q waits
 
     owner-after : StandsForOwner s (given_then t) turns.phase t.line.path t.then.owned
-    owner-after = StandsForOwner-own is_answer (pends t) follows t.whole.sound.written t.whole.sound.board (stood t).owned own_pieces
+    owner-after = StandsForOwner-own is_answer (pends t) follows t.whole.sound.written (stood t).owned own_pieces
 
     -- what another client has pending isn't in the file
     others_apart : (q : ℕ) (k : ClientPath) → q ≢ r → slice_get t.was.clients q ≡ Some k → (x : Piece) → is_some (pending_hold k x) ≡ true

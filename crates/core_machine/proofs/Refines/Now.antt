@@ -1,27 +1,25 @@
 -- What the event of a line sees is what is kept for its path and its client.
-use Rattle.fs_types.proofs.Common.{common_steps, ◌≡◌, ℕ, ◌<◌, length, List, Option, Some, None, max}
+use Rattle.fs_types.proofs.Common.{◌≡◌, ℕ, ◌<◌, length, List, Option, Some, None, max}
 use Rattle.fs_types.proofs.Common.{leb, refl, sym, ap, ◌∙◌, arith, nat_lt, count_by, cond_both}
 use Rattle.fs_script.specs.Vocabulary.{File, Job, Mark, Piece, phase, Answering, marks_at, marked_bytes, seen, front, of_earlier_phases, past_lines}
-use Rattle.core_machine.specs.Vocabulary.{OpLine, Noted, OwnedPath, ClientPath, PathNow, known_of, kept_now, known_from, later_of}
+use Rattle.core_machine.specs.Vocabulary.{OpLine, OwnedPath, ClientPath, PathNow, known_of, kept_now, known_from, later_of}
+use Rattle.client_files.proofs.CallerLemmas.{version-later_of}
 use Rattle.fs_script.proofs.CallerLemmas.{state-by_marks}
 use Rattle.core_machine.specs.Vocabulary.{empty_slots, StandsForOwner, StandsForClient, path_now}
 use Rattle.core_machine.proofs.Refines.NextAnswers.{over_answers-until}
 use Rattle.core_machine.proofs.Refines.Clients.{IsOwn}
 
-later-version : (a b : Noted) → (later_of a b).version ≡ max a.version b.version
-later-version a b = grind (arith, common_steps)
-
 -- the front of the line is the greater of what its client noted and the board
 front-kept : {s : Job} {A : Answering} {now n : ℕ} {o : OpLine} {x : OwnedPath} {k : ClientPath} → phase s n ≡ now
     → IsOwn s A o.rank o.path n o → StandsForOwner s A now o.path x → StandsForClient s A o.rank o.path x k
-    → (later_of k.noted x.board.told).version ≡ front s A x.path.journal o.rank o.path n
+    → (later_of k.noted x.told).version ≡ front s A x.path.journal o.rank o.path n
 front-kept {s} {A} {n} {o} {x} {k} is own owned client =
     let lt = own.within in
     let saw : k.noted.version ≡ seen s A o.rank o.path n = client.seen
     ∙ over_answers-until _ _ s o.rank o.path A n (past_lines s) (omega arith) own.from in
-    let told : x.board.told.version ≡ of_earlier_phases s n x.path.journal = owned.told
+    let told : x.told.version ≡ of_earlier_phases s n x.path.journal = owned.told
     ∙ ap (λ j. count_by (λ m. nat_lt (phase s m) j) x.path.journal) (sym is) in
-    later-version k.noted x.board.told ∙ ap (λ v. max v x.board.told.version) saw ∙ ap (max (seen s A o.rank o.path n)) told
+    version-later_of k.noted x.told ∙ ap (λ v. max v x.told.version) saw ∙ ap (max (seen s A o.rank o.path n)) told
 
 same_now : (v w : PathNow) → v.file ≡ w.file → v.marks ≡ w.marks → v.version ≡ w.version → v.pending ≡ w.pending → v.is_open ≡ w.is_open
     → v.front ≡ w.front → v.at_front ≡ w.at_front → v.free ≡ w.free → v ≡ w
@@ -46,7 +44,7 @@ kept_now-is {s} {A} {now} {n} {free} {o} {x} {k} log chunk is own owned client r
     (ap (marked_bytes s) owned.marks ∙ state-by_marks s A J (length J) chunk) owned.marks refl
     (client.pending ∙ over_answers-until _ _ s o.rank o.path A n (past_lines s) (omega arith) own.from)
     (client.opened ∙ over_answers-until _ _ s o.rank o.path A n (past_lines s) (omega arith) own.from)
-    front ((cond_both (leb x.board.told.version k.noted.version) k.noted x.board.told (λ x. known_from x ≡ at x.version) (λ _. client.known)
+    front ((cond_both (leb x.told.version k.noted.version) k.noted x.told (λ x. known_from x ≡ at x.version) (λ _. client.known)
     (λ _. owned.known)) ∙ ap at front ∙ known-bytes s (marks_at s A J (front_of front))
     ∙ ap known_of (state-by_marks s A J (front_of front) chunk)) room
   where

@@ -5,7 +5,7 @@ use Rattle.fs_types.proofs.Common.{sum_by_push, count_by-le-length, IfSome, inl,
 use Rattle.fs_script.specs.Vocabulary.{Answer, File, Job, Mark, Piece, op_at, phase, marks_in, Answering, pending, pending_for, pending_at, effect_of}
 use Rattle.fs_script.specs.Vocabulary.{effect_in, marks_at, AddsAnswer, ComesNext}
 use Rattle.core_machine.specs.Vocabulary.{OpLine, OwnedPath, ClientPath, Event, Task, known_of, IsFile, file_hold}
-use Rattle.core_machine.specs.Vocabulary.{file_marks, known_from, noted_now, pending_hold, pending_lines, Follows}
+use Rattle.core_machine.specs.Vocabulary.{file_marks, known_from, pending_hold, pending_lines, Follows}
 use Rattle.core_machine.specs.Vocabulary.{StandsForOwner, IsPieceBy, IsPieceOn}
 use Rattle.fs_script.proofs.CallerLemmas.{state_in-push, state_in-push_last, pending_at-next, AllByRecursion-weaker, AllByRecursion-push}
 use Rattle.core_machine.proofs.Refines.NextAnswers.{marks-answered}
@@ -75,9 +75,8 @@ StandsForOwner-other {s} {A} {B} {n = n} {a = a} {x = x} h stands = record {
   written = stands.written;
   marks = stands.marks ∙ marks-answered s A B x.path.journal n (length x.path.journal) a h.adds h.next stands.answered;
   pieces = λ q held. still-on q h.adds (stands.pieces q held);
-  board = stands.board;
   told = stands.told;
-  known = stands.known ∙ ap known_of (marks-answered s A B x.path.journal n x.board.told.version a h.adds h.next stands.answered);
+  known = stands.known ∙ ap known_of (marks-answered s A B x.path.journal n x.told.version a h.adds h.next stands.answered);
 }
 
 -- ---- the part of the line's own path
@@ -101,13 +100,13 @@ answered-grown {A} {B} {n} {a} J false h all = all-answered J h.adds all
 
 pub StandsForOwner-own : {s : Job} {A B : Answering} {now n : ℕ} {o : OpLine} {t : Task} {e : Event} {a : Answer} {x y : OwnedPath}
     {k l : ClientPath} → IsNewAnswer s A now n o a B → pending_lines k ≡ pending s A o.rank o.path n
-    → Follows s n o.op t e x k y l a → IfSome y.path.file IsFile → y.board.latest ≡ noted_now y.path → StandsForOwner s A now o.path x
+    → Follows s n o.op t e x k y l a → IfSome y.path.file IsFile → StandsForOwner s A now o.path x
     → ((q : Piece) → is_some (pending_hold k q) ≡ true → IsPieceBy s A o.rank o.path q) → StandsForOwner s B now o.path y
-StandsForOwner-own {s} {A} {B} {now} {n} {o} {t} {e} {a} {x} {y} {k} h pends follows written latest stands own =
+StandsForOwner-own {s} {A} {B} {now} {n} {o} {t} {e} {a} {x} {y} {k} h pends follows written stands own =
     let J = x.path.journal in
     let commits = e.commits in
     let K : y.path.journal ≡ grown J n commits = follows.journal in
-    let told : y.board.told.version ≡ x.board.told.version = ap (λ b. b.version) follows.told in
+    let told : y.told.version ≡ x.told.version = ap (λ b. b.version) follows.told in
     record {
       answered = subst (λ j. AllByRecursion (λ m. IsSome (B m)) j) (sym K) (answered-grown J commits h stands.answered);
       written = written;
@@ -117,9 +116,8 @@ StandsForOwner-own {s} {A} {B} {now} {n} {o} {t} {e} {a} {x} {y} {k} h pends fol
         | inl there ↦ stands.pieces q there
         | inr waits ↦ record { client = o.rank; by_client = own q waits }
       ]);
-      board = latest;
       told = told ∙ stands.told ∙ sym (ap (count_by (λ m. nat_lt (phase s m) now)) K ∙ told-grown s J n now commits h.phase);
-      known = ap known_from follows.told ∙ stands.known ∙ ap known_of (marks-grown J x.board.told.version commits h.adds h.next stands.answered
+      known = ap known_from follows.told ∙ stands.known ∙ ap known_of (marks-grown J x.told.version commits h.adds h.next stands.answered
           (subst (λ v. v ≤ length J) (sym stands.told) (told-within s J now))
-          ∙ ap (λ (j : List ℕ). marks_at s B j x.board.told.version) (sym K) ∙ ap (marks_at s B y.path.journal) (sym told));
+          ∙ ap (λ (j : List ℕ). marks_at s B j x.told.version) (sym K) ∙ ap (marks_at s B y.path.journal) (sym told));
     }

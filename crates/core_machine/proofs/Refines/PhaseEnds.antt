@@ -1,12 +1,12 @@
 -- The end of a phase: all clients are told of every path, and all that is kept goes on holding in the next phase.
 use Rattle.fs_types.proofs.Common.{◌≡◌, ℕ, zero, suc, ◌<◌, Bool, false, cond, List, [], ◌∷◌, length, map, Option, Some, None, IsSome}
-use Rattle.fs_types.proofs.Common.{true, IfSome, nat_lt, count_by, slice_index, refl, sym, ap, ◌∙◌, subst, arith, zip, slice_get}
+use Rattle.fs_types.proofs.Common.{nat_lt, count_by, slice_index, refl, sym, ap, ◌∙◌, subst, arith, zip, slice_get}
 use Rattle.fs_types.proofs.Common.{AllByRecursion, lt-ltb, length-map, sum_by-cons, map-map, same_Some}
 use Rattle.fs_script.specs.Vocabulary.{Given, answer_at, Job, marks_at, phase, program, Answering}
 use Rattle.owner_book.specs.Calls.{attr_in}
 use Rattle.core_machine.specs.Kept.{OwnedPath, owner_told}
 use Rattle.slot_plain.specs.Log.{Log}
-use Rattle.core_machine.specs.Vocabulary.{BookFile, IsFile, PlainHold, PathState, Task, known_of, file_marks, known_from, with_board, Places, IsAnsweredUpTo}
+use Rattle.core_machine.specs.Vocabulary.{BookFile, PlainHold, PathState, Task, known_of, file_marks, with_told, Places, IsAnsweredUpTo}
 use Rattle.core_machine.specs.Vocabulary.{clients_of, holds_of, moment_of, next_in, pieces_in, Holds}
 use Rattle.core_machine.specs.Vocabulary.{HoldsOfPath, Stands, StandsForLogs, StandsForLookUp}
 use Rattle.core_machine.specs.Vocabulary.{StandsForOwner}
@@ -22,9 +22,10 @@ all-earlier s now (m ∷ J) all =
     let first = ap (λ b. cond {A = ℕ} b 1 0) (lt-ltb (phase s m) now all.0) in
     omega (arith, rest, first, sum_by-cons (λ k. cond (nat_lt (phase s k) now) 1 0) m J)
 
-known-board : (f : Option (BookFile PlainHold)) → IfSome f IsFile → record { exists = (attr_in f).exists; frozen = false } ≡ known_of (file_marks f)
-known-board None written = refl
-known-board (Some f) written = λ i. record { exists = true; frozen = sym written.unfrozen i }
+-- what is noted of a file says what is known of it
+known-noted : (f : Option (BookFile PlainHold)) → record { exists = (attr_in f).exists; frozen = (attr_in f).frozen } ≡ known_of (file_marks f)
+known-noted None = refl
+known-noted (Some f) = refl
 
 -- the owner's part, where every line that was answered is of an earlier phase than the next one
 StandsForOwner-told : {s : Job} {A : Answering} {now : ℕ} (next : ℕ) {p : List ℕ} {x : OwnedPath}
@@ -35,23 +36,20 @@ StandsForOwner-told {s} {A} next {x = x} past stands = record {
   written = stands.written;
   marks = stands.marks;
   pieces = stands.pieces;
-  board = stands.board;
-  told = ap (λ n. n.version) stands.board
-      ∙ all-earlier s next x.path.journal (AllByRecursion-weaker (λ m. IsSome (A m)) (λ m. phase s m < next) x.path.journal past
+  told = all-earlier s next x.path.journal (AllByRecursion-weaker (λ m. IsSome (A m)) (λ m. phase s m < next) x.path.journal past
       stands.answered);
-  known = ap known_from stands.board ∙ known-board x.path.file stands.written ∙ ap known_of stands.marks
-      ∙ ap (λ v. known_of (marks_at s A x.path.journal v)) (sym (ap (λ n. n.version) stands.board));
+  known = known-noted x.path.file ∙ ap known_of stands.marks;
 }
 
 -- the moment stays
 pub moment-told : (s : Job) (paths : List (List ℕ)) (states : List PathState) (answers : Given) (turns then : Places) (tasks : List Task)
     (logs : List Log) (spent : Bool) → then.places ≡ turns.places
-    → moment_of s paths (map with_board states) answers then tasks logs spent ≡ moment_of s paths states answers turns tasks logs spent
+    → moment_of s paths (map with_told states) answers then tasks logs spent ≡ moment_of s paths states answers turns tasks logs spent
 moment-told s paths states answers turns then tasks logs spent places i = record {
   job = s;
   clients = clients_of (places i) tasks;
   answers = answers.list;
-  journals = zip paths (map-map journal_kept with_board states i);
+  journals = zip paths (map-map journal_kept with_told states i);
   logs = map pieces_in logs;
   spent = spent;
 }
@@ -59,12 +57,12 @@ moment-told s paths states answers turns then tasks logs spent places i = record
 -- all that is kept, once all clients were told and the next phase has begun
 pub Holds-told : {s : Job} {paths : List (List ℕ)} {states : List PathState} {answers : Given} {turns : Places} {tasks : List Task}
     {logs : List Log} (then : Places) → then.job ≡ turns.job → then.places ≡ turns.places → turns.phase < then.phase
-    → Holds s paths states answers turns tasks logs → Holds s paths (map with_board states) answers then tasks logs
+    → Holds s paths states answers turns tasks logs → Holds s paths (map with_told states) answers then tasks logs
 Holds-told {s} {paths} {states} {answers} {turns} {tasks} {logs} then job places later held = record {
   job = held.job;
   same = job ∙ held.same;
   named = held.named;
-  kept = length-map states with_board ∙ held.kept;
+  kept = length-map states with_told ∙ held.kept;
   clients = ap length places ∙ held.clients;
   tasked = held.tasked;
   few = held.few;
@@ -107,8 +105,8 @@ Holds-told {s} {paths} {states} {answers} {turns} {tasks} {logs} then job places
     next-same : (r : ℕ) → next_in then r ≡ next_in turns r
     next-same r = λ i. slice_get (program (job i) r) (slice_index (places i) r)
 
-    told-at : (xs : List PathState) (i : ℕ) (x : PathState) → slice_get (map with_board xs) i ≡ Some x
-        → (y : PathState) × (slice_get xs i ≡ Some y) × (with_board y ≡ x)
+    told-at : (xs : List PathState) (i : ℕ) (x : PathState) → slice_get (map with_told xs) i ≡ Some x
+        → (y : PathState) × (slice_get xs i ≡ Some y) × (with_told y ≡ x)
     told-at [] i x is = absurd cc
-    told-at (y ∷ ys) zero x is = (y, refl, same_Some (with_board y) x is)
+    told-at (y ∷ ys) zero x is = (y, refl, same_Some (with_told y) x is)
     told-at (y ∷ ys) (suc i) x is = told-at ys i x is

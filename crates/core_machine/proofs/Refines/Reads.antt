@@ -1,17 +1,19 @@
 -- What is read of a path in what the core keeps: its journal and its file at the moment.
-use Rattle.fs_types.proofs.Common.{common_steps, ◌≡◌, ℕ, List, [], length, map, Some, None, Vec, false, sym, ap}
+use Rattle.fs_types.proofs.Common.{common_steps, ◌≡◌, ℕ, List, [], length, map, Some, None, false, sym, ap}
 use Rattle.fs_types.proofs.Common.{◌∙◌, ◌<◌, arith, get_or, slice_get, Contains, slice_get-get_or, get_or_from_slice_get, IfSome, Option, true, true≢false, is_some}
 use Rattle.fs_script.specs.Vocabulary.{Given, answer_at, Job, marked_bytes, state, AreRising, journal_of}
 use Rattle.slot_plain.specs.Log.{Log}
 use Rattle.core_machine.specs.Logs.{AreInMemory}
 use Rattle.core_machine.specs.Kept.{owned_of}
-use Rattle.core_machine.specs.PathStates.{AreKept, states_of}
-use Rattle.core_machine.specs.Vocabulary.{Board, Book, PlainHold, path_at, ClientPath, OwnedPath, PathState, Task, file_of, file_now, Places}
+use Rattle.core_machine.specs.Core.{states}
+use Rattle.core_machine.specs.PathStates.{pending_after, state_of}
+use Rattle.core_machine.specs.declared.run.Run.{Run}
+use Rattle.core_machine.specs.Vocabulary.{path_at, told_in, ClientPath, OwnedPath, PathState, Task}
+use Rattle.core_machine.specs.Vocabulary.{file_of, file_now, Places}
 use Rattle.core_machine.specs.Vocabulary.{journals_of, moment_of, Holds, HoldsStand, Stands, file_hold}
-use Rattle.fs_script.proofs.CallerLemmas.{slice_get-map_some, slice_get-some}
+use Rattle.fs_script.proofs.CallerLemmas.{slice_get-map_some}
 use Rattle.fs_script.proofs.CallerLemmas.{journal_of-zip, journal_of-absent, state-by_marks}
 use Rattle.core_machine.proofs.Refines.JournalsKept.{journal_kept}
-use Rattle.core_machine.proofs.Refines.StatesOfPaths.{states-at}
 
 -- the place of a path of which this is kept at its owner, and what is kept for the path there
 pub record IsThere (paths : List (List ℕ)) (states : List PathState) (p : List ℕ) (x : OwnedPath) : Type 0 where
@@ -20,21 +22,12 @@ pub record IsThere (paths : List (List ℕ)) (states : List PathState) (p : List
   pub at : slice_get paths place ≡ Some p
   pub there : slice_get states place ≡ Some (record { owned = x; clients = clients })
 
-pub there-kept : {A : Type 0} {servers : ℕ} {paths : List (List ℕ)} {books : List (Book PlainHold)} {boards : List Board}
-    {kept : List (Vec ClientPath A)} (p : List ℕ) → AreKept servers paths books boards kept → Contains paths p
-    → (b : Board) × IsThere paths (states_of (path_at books) paths boards kept) p (owned_of (path_at books p) b)
-there-kept {paths = paths} {books} {boards} {kept} p all has =
-    let at = slice_get-get_or paths has.0 p has.1 ∙ ap Some has.2 in
-    let b = slice_get-some boards has.0 (let rows = all.boarded in let lt = has.1 in omega arith) in
-    let ks = slice_get-some kept has.0 (let rows = all.rows in let lt = has.1 in omega arith) in (
-      b.0,
-      record {
-        place = has.0;
-        clients = ks.0.items;
-        at = at;
-        there = states-at (path_at books) paths boards kept has.0 p b.0 ks.0 at b.1 ks.1;
-      },
-    )
+pub there-kept : {D : Type 0} (r : Run D) (p : List ℕ) → Contains r.paths p
+    → IsThere r.paths (states r) p (owned_of (path_at r.books.items p) (told_in r.board p))
+there-kept r p has =
+    let state = state_of (path_at r.books.items) (told_in r.board) (pending_after r.script.now (answer_at r.answers.list)) r.clients.items in
+    let at = slice_get-get_or r.paths has.0 p has.1 ∙ ap Some has.2 in
+    record { place = has.0; clients = (state p).clients; at = at; there = slice_get-map_some state r.paths has.0 p at }
 
 -- a path that was found among them is one of them
 pub found-there : (place : Option ℕ) (paths : List (List ℕ)) (p : List ℕ) → is_some place ≡ true → IfSome place (λ i. i < length paths)

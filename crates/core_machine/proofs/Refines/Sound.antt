@@ -69,7 +69,7 @@ module _ {s : Job} {paths : List (List ℕ)} {states : List PathState} {answers 
         let task = held.tasks_stand r t midst in
         record {
           whole = record {
-            sound = record { written = stood.owned.written; board = stood.owned.board; pending = client.whole; apart = client.apart };
+            sound = record { written = stood.owned.written; pending = client.whole; apart = client.apart };
             task = task.task;
             midst = task.line n o (ap (λ j. slice_get (program j r) (slice_index turns.places r)) held.same ∙ next) is;
           };

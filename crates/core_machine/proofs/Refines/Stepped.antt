@@ -53,6 +53,15 @@ turns_with turns r (Some a) = after_line turns r
 pub own_op-other : (o : OpLine) (r : ℕ) (p : List ℕ) → (o.rank ≡ r → o.path ≡ p → ⊥) → own_op r p (Some o) ≡ None
 own_op-other o r p other = grind (arith, common_steps, cond-false, false_from_ne_true, and_parts, eqb-true, bytes_eq-Decides)
 
+-- the line that comes next is its client's own on its path
+pub own-next : {s : Job} {A : Answering} {r place n : ℕ} {o : OpLine} → StandsNext s A r place n → op_at s n ≡ Some o
+    → IsOwn s A o.rank o.path n o
+own-next {s} {A} {n = n} {o} stands is = record {
+  own = ap (own_op o.rank o.path) is ∙ (rw (eq-eqb o.rank o.rank refl, (bytes_eq-Decides o.path o.path).1 refl) refl);
+  from = IsOpenFrom-next s o.rank o.path A n (comes_next stands) (ap rank_in is) (λ k own. own_op-rank o.rank o.path (op_at s k) own);
+  within = (let inside = op_at-within s n o is in omega (arith, inside.1));
+}
+
 module _ {s : Job} {paths : List (List ℕ)} {states : List PathState} {answers : Given} {turns : Places} {tasks : List Task}
     {logs : List Log} {r : ℕ} (t : Stepped s paths states answers turns tasks logs r) where
   abbrev pub given : Answering
@@ -86,15 +95,7 @@ module _ {s : Job} {paths : List (List ℕ)} {states : List PathState} {answers 
   not-answered given_one = absurd (true≢false (sym given_one ∙ ap is_some (unanswered stands_next)))
 
   pub is_own : IsOwn s given t.line.rank t.line.path t.number t.line
-  is_own = record {
-    own = ap (own_op t.line.rank t.line.path) t.is ∙ (rw (
-      eq-eqb t.line.rank t.line.rank refl,
-      (bytes_eq-Decides t.line.path t.line.path).1 refl,
-    ) refl);
-    from = IsOpenFrom-next s t.line.rank t.line.path given t.number (comes_next stands_next) (ap rank_in t.is)
-        (λ k own. own_op-rank t.line.rank t.line.path (op_at s k) own);
-    within = (let inside = op_at-within s t.number t.line t.is in omega (arith, inside.1));
-  }
+  is_own = own-next stands_next t.is
 
   pub stood : Stands s given turns.phase t.line.path t.was
   stood = t.held.each t.place t.line.path t.was t.at t.there

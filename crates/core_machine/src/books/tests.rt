@@ -11,8 +11,9 @@ fn a_path_stands_in_the_book_of_its_owner(rt: HostRuntime) -> Result<(), Fail> {
         let mut books = new_books(alloc, 4)?;
         let book = books.get_mut(server).ok_or("four servers")?;
         book.create(alloc, 0xcd2d_41dd_5e07_ef11, &path, LineNo(2))?;
-        let wanted: &[LineNo] = if server == 1 { &[LineNo(2)] } else { &[] };
-        assert_eq!(rt; journal(&books, 4, &path), wanted, "server {server}");
+        let wanted = if server == 1 { Some(LineNo(2)) } else { None };
+        let first = journal(&books, 4, &path).first().copied();
+        assert_eq!(rt; first, wanted, "server {server}");
     }
     Ok(())
 }

@@ -1,58 +1,57 @@
 //! A create: an empty file where there is none.
 
-ghost use Rattle.std.specs.Prelude.{◌≡◌, ℕ, false, IfOk, OnOk};
+ghost use Rattle.std.specs.Prelude.{ℕ, List, IfOk};
 ghost use Rattle.fs_script.specs.Job.{Job};
 ghost use Rattle.core_machine.specs.Books.{ChangesOne};
-ghost use Rattle.core_machine.specs.Follows.{Ends, Follows, KeepsHolds, kept_event};
-ghost use Rattle.core_machine.specs.Kept.{AreSound, owned_in};
+ghost use Rattle.client_files.specs.declared.noted.Noted.{Noted};
+ghost use Rattle.owner_book.specs.Kept.{path_in};
+ghost use Rattle.core_machine.specs.ClientPath.{ChangesOwn, own_of};
+ghost use Rattle.core_machine.specs.Follows.{EndsQuietly};
+ghost use Rattle.core_machine.specs.Kept.{AreSound, owned_of};
 
-use crate::board::Board;
 use crate::books::Book;
-use crate::client_path::ClientPath;
-use crate::noted::Noted;
-use crate::task::Task;
+use crate::client::Client;
 use fs_script::Op;
-use fs_types::{Answer, LineNo, Path, Want};
+use fs_types::{Answer, Attr, LineNo, Path, Want};
+use owner_book::BookNo;
 use std::alloc::Global;
 
-/// Answers a create, line `n`.
+// What is noted of a file that was just created.
+const EMPTY: Attr = Attr {
+    exists: true,
+    size: 0,
+    frozen: false,
+};
+
+/// Answers a create, line `n`. After want of memory what the client keeps for the path is open, and
+/// what the book has of it.
 pub fn create(
     alloc: Global,
     n: LineNo,
     book: &mut Book,
     gfid: u64,
     p: &Path,
-    board: &mut Board,
-    own: &mut ClientPath,
+    client: &mut Client,
 ) -> Result<Answer, Want>
-    ensures ends { IfOk result (λ a. (s : Job) (free : ℕ) → Ends (kept_event s
-        (owned_in book.old gfid p.now board.old) own.old free Task.Idle Op.Create) false a) }
-    ensures follows { IfOk result (λ a. (s : Job) (free : ℕ)
-        → AreSound s (owned_in book.old gfid p.now board.old) own.old
-        → Follows s n Op.Create Task.Idle
-        (kept_event s (owned_in book.old gfid p.now board.old) own.old free Task.Idle Op.Create)
-        (owned_in book.old gfid p.now board.old) own.old
-        (owned_in book.new gfid p.now board.new) own.new a) }
-    ensures holds { OnOk result (KeepsHolds (owned_in book.old gfid p.now board.old) own.old
-        (owned_in book.new gfid p.now board.new) own.new) }
-    ensures sound { OnOk result ((s : Job)
-        → AreSound s (owned_in book.old gfid p.now board.old) own.old
-        → AreSound s (owned_in book.new gfid p.now board.new) own.new) }
+    ensures done { IfOk result (λ a. (s : Job) (lines : List ℕ) (told : Noted)
+        → AreSound s (owned_of (path_in book.old gfid p.now) told) (own_of client.old p.now lines)
+        → EndsQuietly s n Op.Create
+        (owned_of (path_in book.old gfid p.now) told) (own_of client.old p.now lines)
+        (owned_of (path_in book.new gfid p.now) told) (own_of client.new p.now lines) a) }
     ensures others { ChangesOne book.old book.new gfid p.now }
+    ensures elsewhere { ChangesOwn client.old client.new p.now }
 {
     let (v, attr) = book.attr(gfid, p);
     if attr.exists {
-        own.note(v, true);
+        client.note(alloc, p, v, attr)?;
         return Ok(Answer::Exists { v });
     }
-    let Ok(v) = book.create(alloc, gfid, p, n) else {
-        return Err(Want);
+    let v = match book.create(alloc, gfid, p, n) {
+        Ok(v) => v,
+        Err(BookNo::Want) => return Err(Want),
+        Err(_) => unreachable!(),
     };
-    own.is_open = true;
-    own.note(v, true);
-    board.latest = Noted {
-        version: v,
-        exists: true,
-    };
+    client.note(alloc, p, v, EMPTY)?;
+    client.open(alloc, p)?;
     Ok(Answer::Done { v })
 }

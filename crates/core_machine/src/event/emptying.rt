@@ -1,74 +1,79 @@
 //! What a sync, a truncation and an unlink share: each leaves nothing pending for its client. It
-//! touches what the client keeps for the path, the path's board, and the slots of the logs.
+//! touches what the client keeps for the path, and the slots of the logs.
 
-ghost use Rattle.std.specs.Prelude.{◌≡◌, false, All, AllPairs, IfOk, OnOk};
-ghost use Rattle.piece_table.specs.HeldSpans.{held};
+ghost use Rattle.std.specs.Prelude.{◌≡◌, ℕ, List, [], false, All, AllPairs, IfOk, OnOk};
 ghost use Rattle.fs_script.specs.Job.{Job};
-ghost use Rattle.core_machine.specs.Kept.{later_of, noted_of, pending_hold};
+ghost use Rattle.client_files.specs.Noted.{later_of};
+ghost use Rattle.client_map.specs.Kept.{pending_in};
+ghost use Rattle.core_machine.specs.ClientPath.{ChangesOwn, own_of, pending_of};
+ghost use Rattle.core_machine.specs.Kept.{noted_of};
 ghost use Rattle.core_machine.specs.Logs.{AreInOneSlot, HoldsStand, IsHeld, ReleasesAll};
 ghost use Rattle.core_machine.specs.Logs.{are_of_one_slot};
 ghost use Rattle.core_machine.specs.PendingWrites.{DropsPending};
 ghost use Rattle.core_machine.specs.PlainHolds.{AreHeldPlain};
 
-use crate::board::Board;
-use crate::client_path::ClientPath;
+use crate::client::Client;
 use crate::logs::release_all;
-use crate::noted::Noted;
 use crate::plain_hold::PlainHold;
 use fs_dev::SpillDev;
-use fs_types::{Answer, Version, Want};
+use fs_types::{Answer, Attr, Path, Version, Want};
 use owner_book::Committed;
 use slot_plain::PlainLog;
 use std::alloc::Global;
 
-/// Answers a line that finds no file at version `v`: what its client has pending is dropped, and
-/// its slots are let go of. After want of memory what the client keeps is open.
+/// Answers a line that finds no file at version `v`, where the owner says this: what its client has
+/// pending is dropped, and its slots are let go of. After want of memory what the client keeps for
+/// the path is open.
 pub fn find_no_file<D: SpillDev + Drop>(
     alloc: Global,
     v: Version,
-    own: &mut ClientPath,
+    attr: Attr,
+    p: &Path,
+    client: &mut Client,
     logs: &mut [PlainLog<D>],
 ) -> Result<Answer, Want>
-    requires are_held { AreHeldPlain (held own.old.pending.held) }
-    requires stand { (s : Job) × HoldsStand s logs.old (pending_hold own.old) }
+    requires are_held { AreHeldPlain (pending_in client.old.pending p.now) }
+    requires stand { (s : Job)
+        × HoldsStand s logs.old (pending_in client.old.pending p.now).hold_of }
     requires once { AreInOneSlot logs.old }
     ensures answer { IfOk result (λ a. a ≡ Answer.NoEnt v) }
-    ensures noted { OnOk result (own.new ≡ record own.old {
-      pending = own.new.pending;
-      noted = later_of (record { version = v; exists = false }) own.old.noted;
-    }) }
-    ensures drops { OnOk result
-        (DropsPending own.old.pending own.new.pending logs.old logs.new) }
+    ensures noted { OnOk result ((lines : List ℕ) → own_of client.new p.now []
+        ≡ record (own_of client.old p.now lines) {
+          pending = pending_of client.new p.now [];
+          noted = later_of (own_of client.old p.now lines).noted
+              (record { version = v; attr = attr });
+        }) }
+    ensures drops { OnOk result ((lines : List ℕ) → DropsPending
+        (pending_of client.old p.now lines) (pending_of client.new p.now []) logs.old logs.new) }
+    ensures elsewhere { ChangesOwn client.old client.new p.now }
 {
-    let mut dead = Vec::new(alloc);
-    own.pending.clear(&mut dead)?;
-    release_all(logs, &dead);
-    own.note(v, false);
+    let push = client.take(p);
+    release_all(logs, &push.holds);
+    client.note(alloc, p, v, attr)?;
     Ok(Answer::NoEnt { v })
 }
 
 /// Answers a line that was committed: the holds that this handed out are let go of, and the client
-/// and the board note the version with whether there is a file.
+/// notes the version with the attributes of the file. After want of memory what the client keeps
+/// for the path is open.
 pub fn finish_commit<D: SpillDev + Drop>(
+    alloc: Global,
     done: &Committed<PlainHold>,
-    board: &mut Board,
-    own: &mut ClientPath,
+    p: &Path,
+    client: &mut Client,
     logs: &mut [PlainLog<D>],
-) -> Answer
+) -> Result<Answer, Want>
     requires held { All (IsHeld logs.old) done.now.dead.items }
     requires apart { AllPairs (λ g h. are_of_one_slot g h ≡ false) done.now.dead.items }
-    ensures answer { result ≡ Answer.Done done.now.v }
-    ensures noted { own.new ≡ record own.old {
-      noted = later_of (noted_of done.now) own.old.noted;
-    } }
-    ensures board { board.new ≡ record board.old { latest = noted_of done.now } }
+    ensures answer { IfOk result (λ a. a ≡ Answer.Done done.now.v) }
+    ensures noted { OnOk result ((lines : List ℕ) → own_of client.new p.now lines
+        ≡ record (own_of client.old p.now lines) {
+          noted = later_of (own_of client.old p.now lines).noted (noted_of done.now);
+        }) }
     ensures logs { ReleasesAll done.now.dead.items logs.old logs.new }
+    ensures elsewhere { ChangesOwn client.old client.new p.now }
 {
     release_all(logs, &done.dead);
-    own.note(done.v, done.attr.exists);
-    board.latest = Noted {
-        version: done.v,
-        exists: done.attr.exists,
-    };
-    Answer::Done { v: done.v }
+    client.note(alloc, p, done.v, done.attr)?;
+    Ok(Answer::Done { v: done.v })
 }

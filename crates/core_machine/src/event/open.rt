@@ -1,37 +1,39 @@
 //! An open: the file as its owner has it.
 
-ghost use Rattle.std.specs.Prelude.{◌≡◌, ℕ, false};
+ghost use Rattle.std.specs.Prelude.{ℕ, List, IfOk};
 ghost use Rattle.fs_script.specs.Job.{Job};
-ghost use Rattle.core_machine.specs.Follows.{Ends, Follows, KeepsHolds, kept_event};
-ghost use Rattle.core_machine.specs.Kept.{AreSound, owned_in};
+ghost use Rattle.client_files.specs.declared.noted.Noted.{Noted};
+ghost use Rattle.owner_book.specs.Kept.{path_in};
+ghost use Rattle.core_machine.specs.ClientPath.{ChangesOwn, own_of};
+ghost use Rattle.core_machine.specs.Follows.{EndsQuietly};
+ghost use Rattle.core_machine.specs.Kept.{AreSound, owned_of};
 
-use crate::board::Board;
 use crate::books::Book;
-use crate::client_path::ClientPath;
-use crate::task::Task;
+use crate::client::Client;
 use fs_script::Op;
-use fs_types::{Answer, Path};
+use fs_types::{Answer, Path, Want};
+use std::alloc::Global;
 
-/// Answers an open.
-pub fn open(book: &Book, gfid: u64, p: &Path, board: &Board, own: &mut ClientPath) -> Answer
-    ensures ends { (s : Job) (free : ℕ) → Ends (kept_event s
-        (owned_in book.now gfid p.now board.now) own.old free Task.Idle Op.Open) false result }
-    ensures follows { (s : Job) (n free : ℕ)
-        → AreSound s (owned_in book.now gfid p.now board.now) own.old
-        → Follows s n Op.Open Task.Idle
-        (kept_event s (owned_in book.now gfid p.now board.now) own.old free Task.Idle Op.Open)
-        (owned_in book.now gfid p.now board.now) own.old
-        (owned_in book.now gfid p.now board.now) own.new result }
-    ensures holds { KeepsHolds (owned_in book.now gfid p.now board.now) own.old
-        (owned_in book.now gfid p.now board.now) own.new }
-    ensures sound { (s : Job) → AreSound s (owned_in book.now gfid p.now board.now) own.old
-        → AreSound s (owned_in book.now gfid p.now board.now) own.new }
+/// Answers an open. After want of memory what the client keeps for the path is open.
+pub fn open(
+    alloc: Global,
+    book: &Book,
+    gfid: u64,
+    p: &Path,
+    client: &mut Client,
+) -> Result<Answer, Want>
+    ensures done { IfOk result (λ a. (s : Job) (n : ℕ) (lines : List ℕ) (told : Noted)
+        → AreSound s (owned_of (path_in book.now gfid p.now) told) (own_of client.old p.now lines)
+        → EndsQuietly s n Op.Open
+        (owned_of (path_in book.now gfid p.now) told) (own_of client.old p.now lines)
+        (owned_of (path_in book.now gfid p.now) told) (own_of client.new p.now lines) a) }
+    ensures elsewhere { ChangesOwn client.old client.new p.now }
 {
     let (v, attr) = book.attr(gfid, p);
-    own.note(v, attr.exists);
+    client.note(alloc, p, v, attr)?;
     if !attr.exists {
-        return Answer::NoEnt { v };
+        return Ok(Answer::NoEnt { v });
     }
-    own.is_open = true;
-    Answer::Done { v }
+    client.open(alloc, p)?;
+    Ok(Answer::Done { v })
 }

@@ -1,59 +1,73 @@
 //! A truncation: the client's pending writes become part of the file, which is then cut or extended
 //! with zeros.
 
-ghost use Rattle.std.specs.Prelude.{◌≤◌, ℕ, IfOk};
+ghost use Rattle.std.specs.Prelude.{◌≡◌, ◌≤◌, ℕ, List, [], IfOk};
 ghost use Rattle.fs_types.specs.declared.limits.TheConstants.{LONGEST_FILE};
 ghost use Rattle.core_machine.specs.Books.{ChangesOne};
+ghost use Rattle.client_files.specs.declared.noted.Noted.{Noted};
+ghost use Rattle.owner_book.specs.Kept.{path_in};
+ghost use Rattle.core_machine.specs.ClientPath.{ChangesOwn, own_of};
 ghost use Rattle.core_machine.specs.Follows.{EndsLine, EventSound};
-ghost use Rattle.core_machine.specs.Kept.{owned_in};
+ghost use Rattle.core_machine.specs.Kept.{owned_of};
+ghost use Rattle.fs_script.specs.Vocabulary.{Job, after_answer};
 
 use super::emptying::{find_no_file, finish_commit};
-use crate::board::Board;
 use crate::books::Book;
-use crate::client_path::ClientPath;
+use crate::client::Client;
 use crate::task::Task;
 use fs_dev::SpillDev;
-use fs_script::{Op, Script};
+use fs_script::Op;
 use fs_types::{Answer, LineNo, Path, Want};
+use owner_book::BookNo;
 use slot_plain::PlainLog;
 use std::alloc::Global;
 
 /// Answers a truncation to `size` bytes, line `n`. After want of memory all that is kept is open,
-/// but what the book has of other paths.
+/// but what the book and the client have of other paths.
 pub fn trunc<D: SpillDev + Drop>(
     alloc: Global,
-    s: &Script,
     n: LineNo,
     size: u64,
     book: &mut Book,
     gfid: u64,
     p: &Path,
-    board: &mut Board,
-    own: &mut ClientPath,
+    client: &mut Client,
     logs: &mut [PlainLog<D>],
 ) -> Result<Answer, Want>
     requires size { size ≤ LONGEST_FILE }
-    requires sound { (r : ℕ) × EventSound s.now n (Op.Trunc size) r (record {
-      owned = owned_in book.old gfid p.now board.old;
-      client = own.old;
-      task = Task.Idle;
-      logs = logs.old;
-    }) }
-    ensures done { IfOk result (λ a. EndsLine s.now n (Op.Trunc size)
-        (owned_in book.old gfid p.now board.old) own.old logs.old
-        (owned_in book.new gfid p.now board.new) own.new logs.new a) }
+    requires sound { (s : Job) × (lines : List ℕ) × (told : Noted) × (r : ℕ)
+        × EventSound s n (Op.Trunc size) r (record {
+          owned = owned_of (path_in book.old gfid p.now) told;
+          client = own_of client.old p.now lines;
+          task = Task.Idle;
+          logs = logs.old;
+        }) }
+    ensures done { (s : Job) (lines : List ℕ) (told : Noted) (r : ℕ)
+        → EventSound s n (Op.Trunc size) r (record {
+          owned = owned_of (path_in book.old gfid p.now) told;
+          client = own_of client.old p.now lines;
+          task = Task.Idle;
+          logs = logs.old;
+        })
+        → IfOk result (λ a. EndsLine s n (Op.Trunc size)
+        (owned_of (path_in book.old gfid p.now) told) (own_of client.old p.now lines) logs.old
+        (owned_of (path_in book.new gfid p.now) told)
+        (own_of client.new p.now (after_answer (Op.Trunc size) a n lines)) logs.new a) }
     ensures others { ChangesOne book.old book.new gfid p.now }
+    ensures elsewhere { ChangesOwn client.old client.new p.now }
 {
-    if !own.is_open {
+    if !client.files.is_open(p) {
         return Ok(Answer::BadF);
     }
     let (v, attr) = book.attr(gfid, p);
     if !attr.exists {
-        return find_no_file(alloc, v, own, logs);
+        return find_no_file(alloc, v, attr, p, client, logs);
     }
-    let push = own.pending.take(alloc)?;
-    let Ok(done) = book.trunc(alloc, gfid, p, n, size, push) else {
-        return Err(Want);
+    let push = client.take(p);
+    let done = match book.trunc(alloc, gfid, p, n, size, push) {
+        Ok(done) => done,
+        Err((BookNo::Want, _)) => return Err(Want),
+        Err(_) => unreachable!(),
     };
-    Ok(finish_commit(&done, board, own, logs))
+    finish_commit(alloc, &done, p, client, logs)
 }

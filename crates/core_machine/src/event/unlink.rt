@@ -1,55 +1,70 @@
 //! An unlink: the file is taken away, and what its client has pending to the path is dropped.
 
-ghost use Rattle.std.specs.Prelude.{ℕ, IfOk};
+ghost use Rattle.std.specs.Prelude.{◌≡◌, ℕ, List, [], IfOk};
 ghost use Rattle.core_machine.specs.Books.{ChangesOne};
+ghost use Rattle.client_files.specs.declared.noted.Noted.{Noted};
+ghost use Rattle.owner_book.specs.Kept.{path_in};
+ghost use Rattle.core_machine.specs.ClientPath.{ChangesOwn, own_of};
 ghost use Rattle.core_machine.specs.Follows.{EndsLine, EventSound};
-ghost use Rattle.core_machine.specs.Kept.{owned_in};
+ghost use Rattle.core_machine.specs.Kept.{owned_of};
+ghost use Rattle.fs_script.specs.Vocabulary.{Job, after_answer};
 
 use super::emptying::{find_no_file, finish_commit};
-use crate::board::Board;
 use crate::books::Book;
-use crate::client_path::ClientPath;
+use crate::client::Client;
 use crate::task::Task;
 use fs_dev::SpillDev;
-use fs_script::{Op, Script};
+use fs_script::Op;
 use fs_types::{Answer, LineNo, Path, Want};
+use owner_book::BookNo;
 use slot_plain::PlainLog;
 use std::alloc::Global;
 
 /// Answers an unlink, line `n`. After want of memory all that is kept is open, but what the book
-/// has of other paths.
+/// and the client have of other paths.
 pub fn unlink<D: SpillDev + Drop>(
     alloc: Global,
-    s: &Script,
     n: LineNo,
     book: &mut Book,
     gfid: u64,
     p: &Path,
-    board: &mut Board,
-    own: &mut ClientPath,
+    client: &mut Client,
     logs: &mut [PlainLog<D>],
 ) -> Result<Answer, Want>
-    requires { (r : ℕ) × EventSound s.now n Op.Unlink r (record {
-      owned = owned_in book.old gfid p.now board.old;
-      client = own.old;
-      task = Task.Idle;
-      logs = logs.old;
-    }) }
-    ensures done { IfOk result (λ a. EndsLine s.now n Op.Unlink
-        (owned_in book.old gfid p.now board.old) own.old logs.old
-        (owned_in book.new gfid p.now board.new) own.new logs.new a) }
+    requires { (s : Job) × (lines : List ℕ) × (told : Noted) × (r : ℕ)
+        × EventSound s n Op.Unlink r (record {
+          owned = owned_of (path_in book.old gfid p.now) told;
+          client = own_of client.old p.now lines;
+          task = Task.Idle;
+          logs = logs.old;
+        }) }
+    ensures done { (s : Job) (lines : List ℕ) (told : Noted) (r : ℕ)
+        → EventSound s n Op.Unlink r (record {
+          owned = owned_of (path_in book.old gfid p.now) told;
+          client = own_of client.old p.now lines;
+          task = Task.Idle;
+          logs = logs.old;
+        })
+        → IfOk result (λ a. EndsLine s n Op.Unlink
+        (owned_of (path_in book.old gfid p.now) told) (own_of client.old p.now lines) logs.old
+        (owned_of (path_in book.new gfid p.now) told)
+        (own_of client.new p.now (after_answer Op.Unlink a n lines)) logs.new a) }
     ensures others { ChangesOne book.old book.new gfid p.now }
+    ensures elsewhere { ChangesOwn client.old client.new p.now }
 {
-    if !own.is_open {
+    if !client.files.is_open(p) {
         return Ok(Answer::BadF);
     }
     let (v, attr) = book.attr(gfid, p);
     if !attr.exists {
-        return find_no_file(alloc, v, own, logs);
+        return find_no_file(alloc, v, attr, p, client, logs);
     }
-    let Ok(mut done) = book.unlink(alloc, gfid, p, n) else {
-        return Err(Want);
+    let mut done = match book.unlink(alloc, gfid, p, n) {
+        Ok(done) => done,
+        Err(BookNo::Want) => return Err(Want),
+        Err(_) => unreachable!(),
     };
-    own.pending.clear(&mut done.dead)?;
-    Ok(finish_commit(&done, board, own, logs))
+    let push = client.take(p);
+    done.dead.extend_from_slice(&push.holds)?;
+    finish_commit(alloc, &done, p, client, logs)
 }

@@ -1,26 +1,27 @@
 //! A write: bytes into the client's own log, which become pending.
 
-ghost use Rattle.std.specs.Prelude.{◌≡◌, ◌+◌, ◌^◌, ◌<◌, ◌≤◌, Some, length, IfOk, OnOk};
-ghost use Rattle.fs_script.specs.AnswerKinds.{is_accepted};
+ghost use Rattle.std.specs.Prelude.{◌≡◌, ℕ, List, Some, IfOk};
 ghost use Rattle.fs_script.specs.Payload.{data_bytes, write_at};
-ghost use Rattle.core_machine.specs.Follows.{Ends, EventSound, Follows};
-ghost use Rattle.core_machine.specs.Follows.{LogsSettle, free_in, kept_event};
+ghost use Rattle.fs_script.specs.Vocabulary.{after_answer};
+ghost use Rattle.client_files.specs.Kept.{told_in};
 ghost use Rattle.owner_book.specs.Kept.{BookPath};
+ghost use Rattle.core_machine.specs.ClientPath.{ChangesOwn, own_of};
+ghost use Rattle.core_machine.specs.Follows.{EventFollows, EventSound};
 ghost use Rattle.core_machine.specs.Kept.{AreSound, owned_of};
 ghost use Rattle.core_machine.specs.declared.plain_hold.PlainHold.{PlainHold};
 
-use crate::board::Board;
-use crate::client_path::ClientPath;
+use crate::client::Client;
 use crate::logs::{fill_line, release_all};
 use crate::task::Task;
+use client_files::{Board, May};
 use fs_dev::SpillDev;
 use fs_script::{Data, Op, Script};
-use fs_types::{Answer, LONGEST_FILE, LineNo, Rank, Want};
+use fs_types::{Answer, LONGEST_FILE, LineNo, Path, Rank, Want};
 use slot_plain::{PlainLog, TakeNo};
 use std::alloc::Global;
 
 /// Answers a write of `text` at `off`, line `n` of client `r`. After want of memory all that is
-/// kept is open.
+/// kept for the path and the client's log are open.
 pub fn write<D: SpillDev + Drop>(
     alloc: Global,
     s: &Script,
@@ -28,37 +29,63 @@ pub fn write<D: SpillDev + Drop>(
     off: u64,
     text: &Data,
     r: Rank,
+    p: &Path,
     board: &Board,
-    own: &mut ClientPath,
+    client: &mut Client,
     logs: &mut [PlainLog<D>],
 ) -> Result<Answer, Want>
     requires line { write_at s.now n ≡ Some (record { at = off; bytes = data_bytes text.now }) }
-    requires sound { (x : BookPath PlainHold) × EventSound s.now n (Op.Write off text.now) r
-        (record { owned = owned_of x board.now; client = own.old; task = Task.Idle; logs = logs.old }) }
-    ensures ends { (x : BookPath PlainHold) → IfOk result (λ a. Ends (kept_event s.now
-        (owned_of x board.now) own.old (free_in logs.old r) Task.Idle (Op.Write off text.now))
-        (is_accepted a) a) }
-    ensures follows { (x : BookPath PlainHold) → IfOk result (λ a. Follows s.now n
-        (Op.Write off text.now) Task.Idle (kept_event s.now (owned_of x board.now) own.old
-        (free_in logs.old r) Task.Idle (Op.Write off text.now))
-        (owned_of x board.now) own.old (owned_of x board.now) own.new a) }
-    ensures logs { (x : BookPath PlainHold) → EventSound s.now n (Op.Write off text.now) r
-        (record { owned = owned_of x board.now; client = own.old; task = Task.Idle; logs = logs.old })
-        → IfOk result (λ a. LogsSettle s.now n r (is_accepted a)
-        (record { owned = owned_of x board.now; client = own.old; task = Task.Idle; logs = logs.old })
-        (record { owned = owned_of x board.now; client = own.new; task = Task.Idle; logs = logs.new })) }
-    ensures sound { (x : BookPath PlainHold) → EventSound s.now n (Op.Write off text.now) r
-        (record { owned = owned_of x board.now; client = own.old; task = Task.Idle; logs = logs.old })
-        → OnOk result (AreSound s.now (owned_of x board.now) own.new) }
+    requires chunk { client.old.pending.chunk ≡ s.now.shape.chunk }
+    requires sound { (lines : List ℕ) × (x : BookPath PlainHold)
+        × EventSound s.now n (Op.Write off text.now) r (record {
+          owned = owned_of x (told_in board.now p.now);
+          client = own_of client.old p.now lines;
+          task = Task.Idle;
+          logs = logs.old;
+        }) }
+    ensures follows { (lines : List ℕ) (x : BookPath PlainHold)
+        → EventSound s.now n (Op.Write off text.now) r (record {
+          owned = owned_of x (told_in board.now p.now);
+          client = own_of client.old p.now lines;
+          task = Task.Idle;
+          logs = logs.old;
+        })
+        → IfOk result (λ a. EventFollows s.now n (Op.Write off text.now) r
+        (record {
+          owned = owned_of x (told_in board.now p.now);
+          client = own_of client.old p.now lines;
+          task = Task.Idle;
+          logs = logs.old;
+        })
+        (record {
+          owned = owned_of x (told_in board.now p.now);
+          client = own_of client.new p.now (after_answer (Op.Write off text.now) a n lines);
+          task = Task.Idle;
+          logs = logs.new;
+        }) (Some a)) }
+    ensures sound { (lines : List ℕ) (x : BookPath PlainHold)
+        → EventSound s.now n (Op.Write off text.now) r (record {
+          owned = owned_of x (told_in board.now p.now);
+          client = own_of client.old p.now lines;
+          task = Task.Idle;
+          logs = logs.old;
+        })
+        → IfOk result (λ a. AreSound s.now (owned_of x (told_in board.now p.now))
+        (own_of client.new p.now (after_answer (Op.Write off text.now) a n lines))) }
+    ensures elsewhere { ChangesOwn client.old client.new p.now }
 {
-    if !own.is_open {
-        return Ok(Answer::BadF);
-    }
-    let front = own.noted.later(board.told);
-    let v = front.version;
-    if !front.exists {
-        own.note(v, false);
-        return Ok(Answer::NoEnt { v });
+    let front = client.files.at_front(board, p);
+    match client.files.may_write(board, p) {
+        May::BadF => return Ok(Answer::BadF),
+        May::NoEnt(v) => {
+            client.note(alloc, p, front.version, front.attr)?;
+            return Ok(Answer::NoEnt { v });
+        }
+        May::ReadOnly(v) => {
+            client.note(alloc, p, front.version, front.attr)?;
+            return Ok(Answer::ReadOnly { v });
+        }
+        May::Yes => {}
     }
     let len = text.len();
     if len > LONGEST_FILE || off > LONGEST_FILE - len {
@@ -74,8 +101,7 @@ pub fn write<D: SpillDev + Drop>(
     if len == 0 {
         return Ok(Answer::Wrote { slots });
     }
-    let mut dead = Vec::new(alloc);
-    own.pending.add(s, n, off, len, holds, &mut dead)?;
+    let dead = client.add(alloc, p, off, len, holds)?;
     release_all(logs, &dead);
     Ok(Answer::Wrote { slots })
 }

@@ -1,26 +1,17 @@
-use Rattle.fs_types.proofs.Common.{◌≡◌, ◌∙◌, ap, arith, false, length, subst, vec_capacity, with_items, with_items_is}
-use Rattle.core_machine.specs.Core.{moment, states}
-use Rattle.core_machine.specs.Books.{path_at}
-use Rattle.core_machine.specs.PathStates.{states_of}
+use Rattle.fs_types.proofs.Common.{◌≡◌, ◌∙◌, ℕ, Bool, Contains, ap, false, length, sym, subst}
+use Rattle.core_machine.specs.Core.{IsRun, moment, states}
+use Rattle.core_machine.specs.PathStates.{AreKept}
 use Rattle.core_machine.specs.Turns.{turns_then}
-use Rattle.core_machine.specs.Vocabulary.{Holds, moment_of, step}
+use Rattle.core_machine.specs.Vocabulary.{Holds, IsInPhase, Moment, going, moment_of, ready, step}
 use Rattle.core_machine.specs.declared.run.Run.{Run}
-use Rattle.core_machine.proofs.Refines.Goes.{legal-then, nearer, ready-going}
+use Rattle.core_machine.proofs.Refines.Goes.{IsRun-on, nearer, ready-going}
 use Rattle.core_machine.proofs.run.advance.Goals as goal
 
-pub event_of_line-requires-clause-holds : goal.event_of_line-requires-clause-holds
-event_of_line-requires-clause-holds g c =
+pub event_of_line-requires-clause-unspent : goal.event_of_line-requires-clause-unspent
+event_of_line-requires-clause-unspent g c =
     let r = c.args.run.now in
-    let going = ready-going r.script.now r.paths (states r) r.answers r.tasks.items r.logs.items r.spent c.args.r c.requires.run.holds
-    c.requires.run.phases c.requires.ready in
-    rw (
-      c.deref_mut.ensures.value,
-      c.deref_mut-2.ensures.value,
-      c.deref_mut-3.ensures.value,
-      c.deref_mut-4.ensures.value,
-      c.deref_mut-5.ensures.value,
-    )
-    (c.requires.run.holds going.0)
+    (ready-going r.script.now r.paths (states r) r.answers r.tasks.items r.logs.items r.spent c.args.r c.requires.run.holds
+    c.requires.run.phases c.requires.ready).0
 
 pub event_of_line-requires-clause-going : goal.event_of_line-requires-clause-going
 event_of_line-requires-clause-going g c =
@@ -31,117 +22,58 @@ event_of_line-requires-clause-going g c =
 pub go_on-requires-clause-going : goal.go_on-requires-clause-going
 go_on-requires-clause-going g c =
     let r = c.args.run.now in
+    subst (λ (x : Run g.row.D.Denot). Contains (going x.turns) c.args.r) (sym c.event_of_line.ensures.rest)
     (ready-going r.script.now r.paths (states r) r.answers r.tasks.items r.logs.items r.spent c.args.r c.requires.run.holds
     c.requires.run.phases c.requires.ready).1
 
-pub returns-in-Ok-false : goal.returns-in-Ok-false
-returns-in-Ok-false g c =
-    let r = c.args.run.now in
-    let k = c.args.r in
-    let going = ready-going r.script.now r.paths (states r) r.answers r.tasks.items r.logs.items r.spent k c.requires.run.holds
-    c.requires.run.phases c.requires.ready in
-    let new = c.event_of_line.new in
-    let event = c.in-Ok-false.ensures in
-    let books = with_items_is r.books new.books (omega (arith, c.event_of_line.auto.books, c.deref_mut.ensures.len)) in
-    let boards = with_items_is r.boards new.boards (omega (arith, c.event_of_line.auto.boards, c.deref_mut-2.ensures.len)) in
-    let clients = with_items_is r.clients new.clients (omega (arith, c.event_of_line.auto.clients, c.deref_mut-3.ensures.len)) in
-    let tasks = with_items_is r.tasks new.tasks (omega (arith, c.event_of_line.auto.tasks, c.deref_mut-4.ensures.len)) in
-    let logs = with_items_is r.logs new.logs (omega (arith, c.event_of_line.auto.logs, c.deref_mut-5.ensures.len)) in
-    let was = moment_of r.script.now r.paths (states_of (path_at c.deref_mut.result.now) r.paths c.deref_mut-2.result.now c.deref_mut-3.result.now)
-    r.answers r.turns c.deref_mut-4.result.now c.deref_mut-5.result.now false in
-    let m = moment (record r {
-      books = with_items r.books new.books;
-      boards = with_items r.boards new.boards;
-      clients = with_items r.clients new.clients;
-      tasks = with_items r.tasks new.tasks;
-      logs = with_items r.logs new.logs;
-      answers = new.answers;
-    }) in
-    let then : m ≡ step (moment r) (record { client = k }) =
-    rw (
-      books,
-      boards,
-      clients,
-      tasks,
-      logs,
-      going.0,
-      ← c.deref_mut.ensures.value,
-      ← c.deref_mut-2.ensures.value,
-      ← c.deref_mut-3.ensures.value,
-      ← c.deref_mut-4.ensures.value,
-      ← c.deref_mut-5.ensures.value,
-    )
-    (subst (λ b. moment_of r.script.now r.paths (states_of (path_at new.books) r.paths new.boards new.clients) new.answers (turns_then b k r.turns)
-    new.tasks new.logs false ≡ step was (record { client = k })) c.in-Ok-false.field-0-test event.step) in
-    record {
-      run = record {
-        kept = rw (books, boards, clients) event.kept;
-        phases = c.requires.run.phases;
-        holds = λ _. rw (books, boards, clients, tasks, logs) (subst (λ b. Holds r.script.now r.paths (states_of (path_at new.books) r.paths new.boards new.clients)
-            new.answers (turns_then b k r.turns) new.tasks new.logs) c.in-Ok-false.field-0-test event.holds);
-        legal = λ told _. legal-then k c.requires.run c.requires.ready m then told;
-        logged = ap length logs ∙ event.sized ∙ ap length c.deref_mut-5.ensures.value ∙ c.requires.run.logged;
-        no_device = c.requires.run.no_device;
-        room = omega (arith, ap length logs, event.sized, ap length c.deref_mut-5.ensures.value, c.requires.run.room);
-      };
-      ok = then;
-      nearer = nearer k c.requires.run c.requires.ready m then;
-      spent = tt;
-    }
+-- the moment of a run after an event of client k that answered its line, or didn't
+abbrev moment_then : {D : Type 0} → ℕ → Run D → Bool → Moment
+moment_then k r answered =
+    moment_of r.script.now r.paths (states r) r.answers (turns_then answered k r.turns) r.tasks.items r.logs.items false
 
-pub returns-in-Ok-true : goal.returns-in-Ok-true
-returns-in-Ok-true g c =
-    let r = c.args.run.now in
+went-on : {D : Type 0} {old : Run D} (new : Run D) (k : ℕ) → IsRun old → Contains (ready (moment old)) k → new.spent ≡ old.spent
+    → moment_then k new false ≡ step (moment old) (record { client = k }) → moment new ≡ step (moment old) (record { client = k })
+went-on {old = old} new k run may same then =
+    ap (moment_of new.script.now new.paths (states new) new.answers new.turns new.tasks.items new.logs.items)
+    (same ∙ (ready-going old.script.now old.paths (states old) old.answers old.tasks.items old.logs.items old.spent k run.holds run.phases may).0)
+    ∙ then
+
+pub returns-in-Ok-false-clause-run : goal.returns-in-Ok-false-clause-run
+returns-in-Ok-false-clause-run g c =
+    let e = c.in-Ok-false.ensures in
+    let new = c.event_of_line.new.run in
     let k = c.args.r in
-    let going = ready-going r.script.now r.paths (states r) r.answers r.tasks.items r.logs.items r.spent k c.requires.run.holds
-    c.requires.run.phases c.requires.ready in
-    let new = c.event_of_line.new in
-    let event = c.in-Ok-true.ensures in
-    let rest = c.go_on.ensures.rest in
-    let books = with_items_is r.books new.books (omega (arith, c.event_of_line.auto.books, c.deref_mut.ensures.len)) in
-    let boards = with_items_is r.boards new.boards (omega (arith, c.event_of_line.auto.boards, c.deref_mut-2.ensures.len)) in
-    let clients = with_items_is r.clients new.clients (omega (arith, c.event_of_line.auto.clients, c.deref_mut-3.ensures.len)) in
-    let tasks = with_items_is r.tasks new.tasks (omega (arith, c.event_of_line.auto.tasks, c.deref_mut-4.ensures.len)) in
-    let logs = with_items_is r.logs new.logs (omega (arith, c.event_of_line.auto.logs, c.deref_mut-5.ensures.len)) in
-    let was = moment_of r.script.now r.paths (states_of (path_at c.deref_mut.result.now) r.paths c.deref_mut-2.result.now c.deref_mut-3.result.now)
-    r.answers r.turns c.deref_mut-4.result.now c.deref_mut-5.result.now false in
-    let m = moment c.go_on.new.run in
-    let then : m ≡ step (moment r) (record { client = k }) =
-    rw (
-      c.go_on.ensures.moment,
-      books,
-      boards,
-      clients,
-      tasks,
-      logs,
-      going.0,
-      ← c.deref_mut.ensures.value,
-      ← c.deref_mut-2.ensures.value,
-      ← c.deref_mut-3.ensures.value,
-      ← c.deref_mut-4.ensures.value,
-      ← c.deref_mut-5.ensures.value,
-    )
-    (subst (λ b. moment_of r.script.now r.paths (states_of (path_at new.books) r.paths new.boards new.clients) new.answers (turns_then b k r.turns)
-    new.tasks new.logs false ≡ step was (record { client = k })) c.in-Ok-true.field-0-test event.step) in
-    record {
-      run = record {
-        kept = c.go_on.ensures.kept;
-        phases = c.go_on.ensures.phases;
-        holds = λ _. c.go_on.ensures.holds;
-        legal = λ told _. legal-then k c.requires.run c.requires.ready m then told;
-        logged = rw rest (ap length logs ∙ event.sized ∙ ap length c.deref_mut-5.ensures.value ∙ c.requires.run.logged);
-        no_device = ap (λ (x : Run g.row.D.Denot). x.devices.items) rest ∙ c.requires.run.no_device;
-        room = omega (
-          arith,
-          ap (λ (x : Run g.row.D.Denot). length x.logs.items) rest,
-          ap (λ (x : Run g.row.D.Denot). vec_capacity x.devices) rest,
-          ap length logs,
-          event.sized,
-          ap length c.deref_mut-5.ensures.value,
-          c.requires.run.room,
-        );
-      };
-      ok = then;
-      nearer = nearer k c.requires.run c.requires.ready m then;
-      spent = tt;
-    }
+    let then = went-on new k c.requires.run c.requires.ready (ap (λ (x : Run g.row.D.Denot). x.spent) e.rest)
+    (subst (λ b. moment_then k new b ≡ step (moment c.args.run.now) (record { client = k })) c.in-Ok-false.field-0-test e.step) in
+    IsRun-on c.args.r c.requires.run c.requires.ready (ap (λ (x : Run g.row.D.Denot). x.script) e.rest)
+    (ap (λ (x : Run g.row.D.Denot). x.devices) e.rest) e.sized e.kept
+    (subst (λ (x : Run g.row.D.Denot). IsInPhase x.turns) (sym e.rest) c.requires.run.phases) (λ _. e.told)
+    (λ _. subst (λ b. Holds new.script.now new.paths (states new) new.answers (turns_then b c.args.r new.turns) new.tasks.items new.logs.items)
+    c.in-Ok-false.field-0-test e.holds) (λ _. then)
+
+pub returns-in-Ok-false-clause-nearer : goal.returns-in-Ok-false-clause-nearer
+returns-in-Ok-false-clause-nearer g c =
+    let k = c.args.r in
+    let e = c.in-Ok-false.ensures in
+    let new = c.event_of_line.new.run in
+    nearer k c.requires.run c.requires.ready (moment new) (went-on new k c.requires.run c.requires.ready
+    (ap (λ (x : Run g.row.D.Denot). x.spent) e.rest)
+    (subst (λ b. moment_then k new b ≡ step (moment c.args.run.now) (record { client = k })) c.in-Ok-false.field-0-test e.step))
+
+pub returns-in_default-clause-run : goal.returns-in_default-clause-run
+returns-in_default-clause-run g c =
+    let e = c.in-Ok-true.ensures in
+    let f = c.in_default.ensures in
+    let mid = c.event_of_line.new.run in
+    IsRun-on c.args.r c.requires.run c.requires.ready
+    (ap (λ (x : Run g.row.D.Denot). x.script) f.rest ∙ ap (λ (x : Run g.row.D.Denot). x.script) e.rest)
+    (ap (λ (x : Run g.row.D.Denot). x.devices) f.rest ∙ ap (λ (x : Run g.row.D.Denot). x.devices) e.rest)
+    (ap (λ (x : Run g.row.D.Denot). length x.logs.items) f.rest ∙ e.sized)
+    (subst (λ (x : Run g.row.D.Denot). AreKept x.script.now x.books.items x.clients.items) (sym f.rest) e.kept) f.phases (λ _. f.told) (λ _. f.holds)
+    (λ _. f.moment ∙ subst (λ b. moment_then c.args.r mid b ≡ step (moment c.args.run.now) (record { client = c.args.r })) c.in-Ok-true.field-0-test e.step)
+
+pub returns-in_default-clause-nearer : goal.returns-in_default-clause-nearer
+returns-in_default-clause-nearer g c =
+    let mid = c.event_of_line.new.run in
+    nearer c.args.r c.requires.run c.requires.ready (moment c.go_on.new.run) (c.in_default.ensures.moment
+    ∙ subst (λ b. moment_then c.args.r mid b ≡ step (moment c.args.run.now) (record { client = c.args.r })) c.in-Ok-true.field-0-test c.in-Ok-true.ensures.step)

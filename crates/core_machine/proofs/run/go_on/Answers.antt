@@ -1,47 +1,34 @@
-use Rattle.fs_types.proofs.Common.{◌≡◌, ◌∙◌, ℕ, refl, List, Vec, length, length-map, map, sym, ap, subst, arith, with_items, with_items_is}
+use Rattle.fs_types.proofs.Common.{◌≡◌, ◌∙◌, List, [], map, sym, ap, subst, refl}
+use Rattle.fs_script.specs.Vocabulary.{answer_at}
 use Rattle.core_machine.specs.Core.{states}
-use Rattle.core_machine.specs.Books.{path_at}
-use Rattle.core_machine.specs.PathStates.{states_of}
-use Rattle.core_machine.specs.Vocabulary.{Board, Book, ClientPath, PathState, PlainHold, board_told, with_board, moment_of, after_line, Holds, Places}
-use Rattle.core_machine.proofs.Refines.StatesOfPaths.{AreKept-changed, states-told}
+use Rattle.core_machine.specs.PathStates.{AreToldBut, pending_after, states_in}
+use Rattle.core_machine.specs.Vocabulary.{Book, Holds, KeptBoard, PathState, Places, PlainHold, after_line, moment_of, noted_now, path_at, told_in, with_told}
+use Rattle.core_machine.specs.declared.run.Run.{Run}
+use Rattle.core_machine.proofs.Refines.StatesOfPaths.{states-told}
 use Rattle.core_machine.proofs.Refines.PhaseEnds.{Holds-told, moment-told}
 use Rattle.core_machine.proofs.run.go_on.Goals as goal
 
--- the boards of all paths, once all clients were told
-told-are : {A : Type 0} (boards : Vec Board A) (was then : List Board) → was ≡ boards.items → then ≡ map board_told was
-    → (with_items boards then).items ≡ map board_told boards.items
-told-are boards was then is told =
-    with_items_is boards then (omega (arith, ap length told, length-map was board_told, ap length is, boards.ok.0)) ∙ told ∙ ap (map board_told) is
+-- what is kept for each path, once all clients were told of each
+then-told : {D : Type 0} (r : Run D) {books : List (Book PlainHold)} {board : KeptBoard} → books ≡ r.books.items
+    → AreToldBut r.script.now [] board books
+    → states_in r.script.now r.books.items board r.clients.items r.answers r.paths ≡ map with_told (states r)
+then-told r {board = board} are told =
+    states-told (path_at r.books.items) (pending_after r.script.now (answer_at r.answers.list)) r.clients.items r.paths
+    (told_in r.board) (told_in board) (λ q. told.each q refl ∙ ap (λ bs. noted_now (path_at bs q)) are)
 
--- what is kept for each path then
-states-are : {A B : Type 0} (books : List (Book PlainHold)) (boards : Vec Board A) (was then : List Board) (paths : List (List ℕ))
-    (kept : List (Vec ClientPath B)) → was ≡ boards.items → then ≡ map board_told was
-    → states_of (path_at books) paths (with_items boards then).items kept ≡ map with_board (states_of (path_at books) paths boards.items kept)
-states-are books boards was then paths kept is told =
-    ap (λ (bs : List Board). states_of (path_at books) paths bs kept) (told-are boards was then is told)
-    ∙ states-told (path_at books) paths boards.items kept
-
-pub returns-then-advance-clause-kept : goal.returns-then-advance-clause-kept
-returns-then-advance-clause-kept g c =
+pub returns-in_ok-tell-clause-holds : goal.returns-in_ok-tell-clause-holds
+returns-in_ok-tell-clause-holds g c =
     let r = c.args.run.now in
-    let are = told-are r.boards c.deref_mut.result.now c.tell_all.new.boards c.deref_mut.ensures.value c.tell_all.ensures in
-    AreKept-changed refl (ap length are ∙ length-map r.boards.items board_told) refl c.requires.kept
-
-pub returns-then-advance-clause-holds : goal.returns-then-advance-clause-holds
-returns-then-advance-clause-holds g c =
-    let r = c.args.run.now in
-    let are = states-are r.books.items r.boards c.deref_mut.result.now c.tell_all.new.boards r.paths r.clients.items c.deref_mut.ensures.value
-    c.tell_all.ensures in
-    subst (λ (xs : List PathState). Holds r.script.now r.paths xs r.answers c.advance.new.self r.tasks.items r.logs.items) (sym are)
+    subst (λ (xs : List PathState). Holds r.script.now r.paths xs r.answers c.advance.new.self r.tasks.items r.logs.items)
+    (sym (then-told r c.deref.ensures.value c.in_ok-tell.ensures))
     (Holds-told c.advance.new.self c.advance.ensures.job c.advance.ensures.places (c.advance.ensures.begins c.if-advance.true) c.requires.holds)
 
-pub returns-then-advance-clause-moment : goal.returns-then-advance-clause-moment
-returns-then-advance-clause-moment g c =
+pub returns-in_ok-tell-clause-moment : goal.returns-in_ok-tell-clause-moment
+returns-in_ok-tell-clause-moment g c =
     let r = c.args.run.now in
     let next = after_line r.turns c.args.r in
-    let are = states-are r.books.items r.boards c.deref_mut.result.now c.tell_all.new.boards r.paths r.clients.items c.deref_mut.ensures.value
-    c.tell_all.ensures in
-    ap (λ (xs : List PathState). moment_of r.script.now r.paths xs r.answers c.advance.new.self r.tasks.items r.logs.items r.spent) are
+    ap (λ (xs : List PathState). moment_of r.script.now r.paths xs r.answers c.advance.new.self r.tasks.items r.logs.items r.spent)
+    (then-told r c.deref.ensures.value c.in_ok-tell.ensures)
     ∙ moment-told r.script.now r.paths (states r) r.answers next c.advance.new.self r.tasks.items r.logs.items r.spent c.advance.ensures.places
     ∙ ap (moment_of r.script.now r.paths (states r) r.answers next r.tasks.items r.logs.items) c.requires.unspent
 

@@ -1,43 +1,63 @@
-use Rattle.fs_types.proofs.Common.{◌≡◌, All-contains, Some, ap, subst, sym}
-use Rattle.piece_table.specs.HeldSpans.{AreGone, held}
-use Rattle.core_machine.specs.declared.client_path.ClientPath.{ClientPath}
+-- The holds of the push that was taken are those of what was pending, and each is of a slot of its own.
+use Rattle.fs_types.proofs.Common.{◌≡◌, ◌∙◌, [], All, All-contains, Some, ap, false, subst, sym}
+use Rattle.std.specs.List.{AllPairs}
+use Rattle.piece_table.specs.HeldSpans.{AreGone}
+use Rattle.client_files.specs.Kept.{KeptFiles, is_open_in, noted_in}
+use Rattle.client_files.specs.Noted.{later_of}
+use Rattle.client_map.specs.Kept.{pending_in}
+use Rattle.core_machine.specs.ClientPath.{ClientPath, Pending, pending_of}
+use Rattle.core_machine.specs.Logs.{IsHeld, ReleasesAll, are_of_one_slot}
 use Rattle.core_machine.specs.declared.plain_hold.PlainHold.{PlainHold}
-use Rattle.core_machine.specs.Kept.{pending_hold}
 use Rattle.core_machine.specs.PendingWrites.{DropsPending}
-use Rattle.core_machine.proofs.LetGo.{all_gone, in-slots}
+use Rattle.core_machine.proofs.LetGo.{in-slots}
+use Rattle.core_machine.proofs.PushedPending.{gone-pushed}
 use Rattle.core_machine.proofs.Settled.{AreInSlots, apart-gone, held-gone}
 use Rattle.core_machine.proofs.event.emptying.find_no_file.Goals as goal
 use Rattle.core_machine.proofs.event.emptying.find_no_file.Goals.{After-deref}
 use Rattle.core_machine.proofs.event.emptying.find_no_file.Given.{Over}
 
--- the holds that were cleared are those of what was pending
-gone : (g : Over) (c : After-deref g)
-    → AreGone (λ (h : PlainHold). h.piece) (held c.args.own.now.pending.held) (held c.clear.new.self.held) c.deref.result.now
-gone g c = let handed = c.in_ok-clear.ensures.dead in
-    subst (AreGone (λ (h : PlainHold). h.piece) (held c.args.own.now.pending.held) (held c.clear.new.self.held))
-    (all_gone c.new-dead.result.items c.clear.new.dead.items c.deref.result.now handed.0 c.new-dead.ensures.items handed.1
-    c.deref.ensures.value) handed.2
+module _ (g : Over) (c : After-deref g) where
+  gone : AreGone (λ (h : PlainHold). h.piece) (pending_in c.args.client.now.pending c.args.p.now)
+      (pending_in c.take-push.new.self.pending c.args.p.now) c.take-push.result.holds.items
+  gone = gone-pushed (pending_in c.args.client.now.pending c.args.p.now) (pending_in c.take-push.new.self.pending c.args.p.now)
+      c.take-push.result c.take-push.ensures.push c.take-push.ensures.none.fragments
 
-slots : (g : Over) (c : After-deref g) → AreInSlots c.requires.stand.0 c.args.logs.now c.deref.result.now
-slots g c = in-slots c.requires.stand.0 c.args.logs.now c.deref.result.now
-    (λ h is_gone. (c.requires.stand.1 h.piece h
-    (All-contains (λ (i : PlainHold). pending_hold c.args.own.now i.piece ≡ Some i) c.deref.result.now h (gone g c).held is_gone)).1)
-    c.requires.once (gone g c).once
+  slots : AreInSlots c.requires.stand.0 c.args.logs.now c.take-push.result.holds.items
+  slots = in-slots c.requires.stand.0 c.args.logs.now c.take-push.result.holds.items
+      (λ h is_gone. (c.requires.stand.1 h.piece h
+      (All-contains (λ (i : PlainHold). (pending_in c.args.client.now.pending c.args.p.now).hold_of i.piece ≡ Some i)
+      c.take-push.result.holds.items h gone.held is_gone)).1)
+      c.requires.once gone.once
 
 pub release_all-requires-clause-held : goal.release_all-requires-clause-held
 release_all-requires-clause-held g c =
-    held-gone c.requires.stand.0 c.args.logs.now c.deref.result.now (slots g (goal.at.release_all-requires-clause-held g c).After-deref)
+    subst (All (IsHeld c.args.logs.now)) (sym c.deref.ensures.value)
+    (held-gone c.requires.stand.0 c.args.logs.now c.take-push.result.holds.items
+    (slots g (goal.at.release_all-requires-clause-held g c).After-deref))
 
 pub release_all-requires-clause-apart : goal.release_all-requires-clause-apart
 release_all-requires-clause-apart g c =
-    apart-gone c.requires.stand.0 c.args.logs.now c.deref.result.now (slots g (goal.at.release_all-requires-clause-apart g c).After-deref)
+    subst (AllPairs (λ g h. are_of_one_slot g h ≡ false)) (sym c.deref.ensures.value)
+    (apart-gone c.requires.stand.0 c.args.logs.now c.take-push.result.holds.items
+    (slots g (goal.at.release_all-requires-clause-apart g c).After-deref))
 
 pub returns-clause-drops : goal.returns-clause-drops
-returns-clause-drops g c =
-    let p = ap (λ (l : ClientPath). l.pending) c.note.ensures in
-    subst (λ p. DropsPending c.args.own.now.pending p c.args.logs.now c.release_all.new.logs) (sym p) (record {
-      none = c.in_ok-clear.ensures.none;
-      gone = c.deref.result.now;
+returns-clause-drops g c = λ lines.
+    let old = pending_of c.args.client.now c.args.p.now lines in
+    subst (λ (p : Pending). DropsPending old p c.args.logs.now c.release_all.new.logs)
+    (sym (ap (λ (w : ClientPath). w.pending) (c.in_ok-note.ensures.noted []))) (record {
+      none = c.take-push.ensures.none;
+      gone = c.take-push.result.holds.items;
       are_gone = gone g (goal.at.returns-clause-drops g c).After-deref;
-      logs = c.release_all.ensures;
+      logs = subst (λ hs. ReleasesAll hs c.args.logs.now c.release_all.new.logs) c.deref.ensures.value c.release_all.ensures;
     })
+
+pub returns-clause-noted : goal.returns-clause-noted
+returns-clause-noted g c = λ lines.
+    let now = pending_of c.note.new.self c.args.p.now [] in
+    ap (λ (w : ClientPath). let v : ClientPath = record w { pending = now } in v) (c.in_ok-note.ensures.noted [])
+    ∙ ap (λ (files : KeptFiles). let v : ClientPath = record {
+      is_open = is_open_in files c.args.p.now;
+      pending = now;
+      noted = later_of (noted_in files c.args.p.now) (record { version = c.args.v; attr = c.args.attr });
+    } in v) c.take-push.ensures.files

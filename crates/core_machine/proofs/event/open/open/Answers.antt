@@ -1,18 +1,38 @@
-use Rattle.fs_types.proofs.Common.{ap, is_some, refl, sym, ◌∙◌}
+-- The client notes the version now, and opens the path where there is a file.
+use Rattle.fs_types.proofs.Common.{◌≡◌, ◌∙◌, ap, arith, common_steps, false, refl, true}
+use Rattle.fs_types.specs.declared.answer.Answer.TheVariants.{Done, NoEnt}
 use Rattle.fs_script.specs.declared.line.Op.TheVariants.{Open}
-use Rattle.core_machine.specs.Kept.{owned_in, pending_hold, pending_lines}
-use Rattle.fs_types.specs.declared.answer.Answer.TheVariants.{Done}
 use Rattle.owner_book.specs.Kept.{path_in}
-use Rattle.core_machine.proofs.EventsFollow.{follows-noted, noted-told, open-commits, version-told}
+use Rattle.core_machine.specs.ClientPath.{ClientPath, own_of}
+use Rattle.core_machine.specs.Kept.{owned_of}
+use Rattle.core_machine.specs.declared.task.Task.TheVariants.{Idle}
+use Rattle.core_machine.proofs.EventsFollow.{ends-answered, notes-told}
+use Rattle.core_machine.proofs.FileEvents.{open-absent, open-there}
 use Rattle.core_machine.proofs.event.open.open.Goals as goal
 
-pub returns-clause-follows : goal.returns-clause-follows
-returns-clause-follows c = λ s n free sound.
-    let k = c.args.own.now in
-    let x = path_in c.args.book.now c.args.gfid c.args.p.now in
-    let board = c.args.board.now in
-    follows-noted s n Open _ (owned_in c.args.book.now c.args.gfid c.args.p.now board) k _ (Done c.attr-v.result.0)
-    (open-commits s x board k free) sound.written
-    (noted-told c.attr-v.result c.attr-v.result.1.exists x k.noted _ c.attr-v.ensures.attr refl (ap (λ l. l.noted) c.note.ensures))
-    (version-told c.attr-v.result x c.attr-v.ensures.attr) refl (ap pending_lines c.note.ensures)
-    (λ q there. ap (λ l. is_some (pending_hold l q)) (sym c.note.ensures) ∙ there)
+pub returns-then-not-attr-clause-done : goal.returns-then-not-attr-clause-done
+returns-then-not-attr-clause-done c = λ s n lines told.
+    let k = own_of c.args.client.now c.args.p.now lines in
+    let l = own_of c.note.new.self c.args.p.now lines in
+    let x = owned_of (path_in c.args.book.now c.args.gfid c.args.p.now) told in
+    let absent : c.attr-v.result.1.exists ≡ false = grind (arith, common_steps) in
+    let noted = c.in_ok-note.ensures.noted lines in
+    let a = NoEnt c.attr-v.result.0 in
+    ends-answered s n Open x k l a (λ free. open-absent s x k c.attr-v.result c.attr-v.ensures.attr free absent)
+    (notes-told x k Idle a c.attr-v.result l.noted c.attr-v.ensures.attr (ap (λ (w : ClientPath). w.noted) noted) refl)
+    (ap (λ (w : ClientPath). w.is_open) noted) refl (ap (λ (w : ClientPath). w.pending) noted)
+
+pub returns-clause-done : goal.returns-clause-done
+returns-clause-done c = λ s n lines told.
+    let k = own_of c.args.client.now c.args.p.now lines in
+    let l = own_of c.open.new.self c.args.p.now lines in
+    let x = owned_of (path_in c.args.book.now c.args.gfid c.args.p.now) told in
+    let there : c.attr-v.result.1.exists ≡ true = grind (arith, common_steps) in
+    let noted = c.in_ok-note.ensures.noted lines in
+    let opened = c.in_ok-open.ensures.opened lines in
+    let a = Done c.attr-v.result.0 in
+    ends-answered s n Open x k l a (λ free. open-there s x k c.attr-v.result c.attr-v.ensures.attr free there)
+    (notes-told x k Idle a c.attr-v.result l.noted c.attr-v.ensures.attr
+    (ap (λ (w : ClientPath). w.noted) opened ∙ ap (λ (w : ClientPath). w.noted) noted) refl)
+    (ap (λ (w : ClientPath). w.is_open) opened) refl
+    (ap (λ (w : ClientPath). w.pending) opened ∙ ap (λ (w : ClientPath). w.pending) noted)

@@ -1,27 +1,44 @@
-use Rattle.fs_types.proofs.Common.{ap, arith, common_steps, is_some, length-map, length-range_with_len, refl, sym, ◌≡◌, ◌∙◌, true}
+-- The client notes the version now.
+use Rattle.fs_types.proofs.Common.{◌≡◌, ap, arith, common_steps, false, refl, sym, true}
+use Rattle.fs_types.specs.declared.answer.Answer.TheVariants.{BadF, NoEnt, Sized}
 use Rattle.fs_script.specs.declared.line.Op.TheVariants.{Size}
-use Rattle.core_machine.specs.Kept.{owned_in, pending_hold, pending_lines}
-use Rattle.fs_types.specs.declared.answer.Answer.TheVariants.{Sized}
 use Rattle.owner_book.specs.Kept.{path_in}
-use Rattle.core_machine.proofs.EventsFollow.{follows-noted, noted-told, size-commits, version-told}
+use Rattle.core_machine.specs.ClientPath.{ClientPath, own_of}
+use Rattle.core_machine.specs.Kept.{owned_of}
+use Rattle.core_machine.specs.declared.task.Task.TheVariants.{Idle}
+use Rattle.core_machine.proofs.EventsFollow.{ends-answered, notes-none, notes-told}
+use Rattle.core_machine.proofs.FileEvents.{size-absent, size-there}
 use Rattle.core_machine.proofs.event.size.size.Goals as goal
 
--- a file has as many bytes as it has marks
-pub returns-clause-ends : goal.returns-clause-ends
-returns-clause-ends c = λ s free. record {
-  answer = grind (arith, common_steps, length-map, length-range_with_len);
-  doing = grind (arith, common_steps);
-  filling = grind (arith, common_steps);
-}
+pub returns-then-not-is_open-clause-done : goal.returns-then-not-is_open-clause-done
+returns-then-not-is_open-clause-done c = λ s n lines told.
+    let k = own_of c.args.client.now c.args.p.now lines in
+    let x = owned_of (path_in c.args.book.now c.args.gfid c.args.p.now) told in
+    let closed = sym c.if-not-is_open.ensures in
+    ends-answered s n Size x k k BadF (λ free. rw closed refl) (notes-none x k Idle BadF refl) refl refl refl
 
-pub returns-clause-follows : goal.returns-clause-follows
-returns-clause-follows c = λ s n free sound.
-    let k = c.args.own.now in
-    let x = path_in c.args.book.now c.args.gfid c.args.p.now in
-    let board = c.args.board.now in
-    let opened : k.is_open ≡ true = grind (arith, common_steps) in
-    follows-noted s n Size _ (owned_in c.args.book.now c.args.gfid c.args.p.now board) k _
-    (Sized c.attr-v.result.0 c.attr-v.result.1.size c.attr-v.result.1.frozen) (size-commits s x board k free opened) sound.written
-    (noted-told c.attr-v.result c.attr-v.result.1.exists x k.noted _ c.attr-v.ensures.attr refl (ap (λ l. l.noted) c.note.ensures))
-    (version-told c.attr-v.result x c.attr-v.ensures.attr) (ap (λ l. l.is_open) c.note.ensures) (ap pending_lines c.note.ensures)
-    (λ q there. ap (λ l. is_some (pending_hold l q)) (sym c.note.ensures) ∙ there)
+pub returns-then-not-attr-clause-done : goal.returns-then-not-attr-clause-done
+returns-then-not-attr-clause-done c = λ s n lines told.
+    let k = own_of c.args.client.now c.args.p.now lines in
+    let l = own_of c.note.new.self c.args.p.now lines in
+    let x = owned_of (path_in c.args.book.now c.args.gfid c.args.p.now) told in
+    let absent : c.attr-v.result.1.exists ≡ false = grind (arith, common_steps) in
+    let noted = c.in_ok-note.ensures.noted lines in
+    let a = NoEnt c.attr-v.result.0 in
+    ends-answered s n Size x k l a
+    (λ free. size-absent s x k c.attr-v.result c.attr-v.ensures.attr free (sym c.if-not-is_open.ensures) absent)
+    (notes-told x k Idle a c.attr-v.result l.noted c.attr-v.ensures.attr (ap (λ (w : ClientPath). w.noted) noted) refl)
+    (ap (λ (w : ClientPath). w.is_open) noted) refl (ap (λ (w : ClientPath). w.pending) noted)
+
+pub returns-clause-done : goal.returns-clause-done
+returns-clause-done c = λ s n lines told.
+    let k = own_of c.args.client.now c.args.p.now lines in
+    let l = own_of c.note.new.self c.args.p.now lines in
+    let x = owned_of (path_in c.args.book.now c.args.gfid c.args.p.now) told in
+    let there : c.attr-v.result.1.exists ≡ true = grind (arith, common_steps) in
+    let noted = c.in_ok-note.ensures.noted lines in
+    let a = Sized c.attr-v.result.0 c.attr-v.result.1.size c.attr-v.result.1.frozen in
+    ends-answered s n Size x k l a
+    (λ free. size-there s x k c.attr-v.result c.attr-v.ensures.attr free (sym c.if-not-is_open.ensures) there)
+    (notes-told x k Idle a c.attr-v.result l.noted c.attr-v.ensures.attr (ap (λ (w : ClientPath). w.noted) noted) refl)
+    (ap (λ (w : ClientPath). w.is_open) noted) refl (ap (λ (w : ClientPath). w.pending) noted)

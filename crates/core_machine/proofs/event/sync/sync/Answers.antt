@@ -1,95 +1,113 @@
-use Rattle.fs_types.proofs.Common.{◌≡◌, arith, common_steps, false, refl, true}
-use Rattle.fs_script.specs.Vocabulary.{has_any}
+-- What a sync leaves: the path as it was where it commits nothing, and else with the push of what was pending over its file.
+use Rattle.fs_types.proofs.Common.{◌≡◌, ◌∙◌, ℕ, List, [], ap, arith, common_steps, false, false≢true, refl, sym, true}
+use Rattle.std.proofs.lemmas.Result.{on_ok_weaker}
+use Rattle.fs_script.specs.Vocabulary.{Job}
 use Rattle.fs_script.specs.declared.line.Op.TheVariants.{Sync}
+use Rattle.client_files.specs.Noted.{later_of}
+use Rattle.client_files.specs.declared.noted.Noted.{Noted}
 use Rattle.owner_book.specs.Commits.{with_commit}
 use Rattle.owner_book.specs.Kept.{path_in}
+use Rattle.core_machine.specs.ClientPath.{ClientPath, own_of, pending_of}
+use Rattle.core_machine.specs.Follows.{EventSound}
 use Rattle.core_machine.specs.declared.plain_hold.PlainHold.{PlainHold}
-use Rattle.core_machine.specs.Kept.{owned_in, pending_lines}
+use Rattle.core_machine.specs.Kept.{noted_of, owned_of}
 use Rattle.core_machine.proofs.BooksOfPaths.{ChangesOne-changed, ChangesOne-same, path-changed}
-use Rattle.core_machine.proofs.EmptiedLines.{CommitsLine, apart-committed, ends-closed, ends-committed, ends-refused}
-use Rattle.core_machine.proofs.EmptiedLines.{held-committed, holds-there, told-file}
+use Rattle.core_machine.proofs.EmptiedLines.{CommitsLine, apart-committed, elsewhere-then, ends-closed, ends-committed, ends-refused}
+use Rattle.core_machine.proofs.EmptiedLines.{own-taken}
+use Rattle.core_machine.proofs.EventsFollow.{told-file}
+use Rattle.core_machine.proofs.HeldPieces.{no-line, some-line}
+use Rattle.core_machine.proofs.LetGo.{idle_kept}
 use Rattle.core_machine.proofs.PushedPending.{may-commit}
 use Rattle.core_machine.proofs.SyncEvents.{closed-sync, commits-synced, ends-empty, refused-sync}
 use Rattle.core_machine.proofs.event.sync.sync.Goals as goal
 use Rattle.core_machine.proofs.event.sync.sync.Goals.{In-Ok}
 use Rattle.core_machine.proofs.event.sync.sync.Given.{Over}
 
-pub returns-then-not-own-clause-done : goal.returns-then-not-own-clause-done
-returns-then-not-own-clause-done g c =
-    let x = owned_in c.args.book.now c.args.gfid c.args.p.now c.args.board.now in
-    let closed : c.args.own.now.is_open ≡ false = grind (arith, common_steps) in
-    ends-closed c.args.s.now c.args.n Sync c.requires.0 x c.args.own.now c.args.logs.now c.requires.1
-    (closed-sync c.args.s.now x c.args.own.now closed) refl
+pub returns-then-not-is_open-clause-done : goal.returns-then-not-is_open-clause-done
+returns-then-not-is_open-clause-done g c = λ s lines told r sound.
+    let x = owned_of (path_in c.args.book.now c.args.gfid c.args.p.now) told in
+    let k = own_of c.args.client.now c.args.p.now lines in
+    ends-closed s c.args.n Sync r x k c.args.logs.now sound (closed-sync s x k (sym c.if-not-is_open.ensures)) refl
 
 pub returns-then-not-attr-clause-done : goal.returns-then-not-attr-clause-done
-returns-then-not-attr-clause-done g c =
-    let x = owned_in c.args.book.now c.args.gfid c.args.p.now c.args.board.now in
-    let k = c.args.own.now in
-    let opened : k.is_open ≡ true = grind (arith, common_steps) in
+returns-then-not-attr-clause-done g c = λ s lines told r sound.
+    let x = owned_of (path_in c.args.book.now c.args.gfid c.args.p.now) told in
+    let k = own_of c.args.client.now c.args.p.now lines in
     let absent : c.attr-v.result.1.exists ≡ false = grind (arith, common_steps) in
-    ends-refused c.args.s.now c.args.n Sync c.requires.0 x k c.args.logs.now c.requires.1 c.attr-v.result c.find_no_file.new.own
-    c.find_no_file.new.logs c.attr-v.ensures.attr absent (refused-sync c.args.s.now x k opened) (λ v. refl) c.find_no_file.result
-    c.find_no_file.ensures.answer c.find_no_file.ensures.noted c.find_no_file.ensures.drops
+    let did = c.find_no_file.ensures in
+    ends-refused s c.args.n Sync r x k c.args.logs.now sound c.attr-v.result (own_of c.find_no_file.new.client c.args.p.now)
+    c.find_no_file.new.logs c.attr-v.ensures.attr absent (refused-sync s x k (sym c.if-not-is_open.ensures)) (λ v. refl)
+    c.find_no_file.result did.answer (on_ok_weaker c.find_no_file.result (λ f. f lines) did.noted)
+    (on_ok_weaker c.find_no_file.result (λ f. f lines) did.drops)
 
-pub returns-then-is_empty-clause-done : goal.returns-then-is_empty-clause-done
-returns-then-is_empty-clause-done g c =
-    let x = owned_in c.args.book.now c.args.gfid c.args.p.now c.args.board.now in
-    let opened : c.args.own.now.is_open ≡ true = grind (arith, common_steps) in
+pub returns-then-not-has-clause-done : goal.returns-then-not-has-clause-done
+returns-then-not-has-clause-done g c = λ s lines told r sound.
+    let x = owned_of (path_in c.args.book.now c.args.gfid c.args.p.now) told in
+    let k = own_of c.args.client.now c.args.p.now lines in
     let there : c.attr-v.result.1.exists ≡ true = grind (arith, common_steps) in
-    ends-empty c.args.s.now x c.args.own.now c.args.n c.requires.0 c.args.logs.now c.requires.1 c.attr-v.result c.note.new.self
-    c.attr-v.ensures.attr there opened (c.if-is_empty.ensures.0 refl) c.note.ensures
-
-pub commit-requires-clause-holds : goal.commit-requires-clause-holds
-commit-requires-clause-holds g c = holds-there _ c.requires.1.whole.sound.written
+    let none = no-line s k.pending sound.whole.sound.pending refl (λ some. false≢true (c.if-not-has.ensures.1 some)) in
+    let m : Noted = record { version = c.attr-v.result.0; attr = c.attr-v.result.1 } in
+    ends-empty s x k c.args.n r c.args.logs.now sound c.attr-v.result (own_of c.note.new.self c.args.p.now []) c.attr-v.ensures.attr there
+    (sym c.if-not-is_open.ensures) none
+    (c.in_ok-note.ensures.noted []
+    ∙ ap (λ ns. let v : ClientPath = own_of c.args.client.now c.args.p.now ns in
+    let l : ClientPath = record v { noted = later_of v.noted m } in l) (sym none))
 
 pub commit-requires-clause-push : goal.commit-requires-clause-push
 commit-requires-clause-push g c =
-    may-commit c.args.s.now c.args.own.now.pending c.in_ok-push.push (path_in c.args.book.now c.args.gfid c.args.p.now)
-    c.requires.1.whole.sound.pending c.in_ok-push.ensures.push c.requires.1.whole.sound.apart
+    let sound = c.requires.4.whole.sound in
+    may-commit c.requires.0 (pending_of c.args.client.now c.args.p.now c.requires.1) c.take-push.result
+    (path_in c.args.book.now c.args.gfid c.args.p.now) sound.pending c.take-push.ensures.push sound.apart
 
-pub returns-in_default-clause-others : goal.returns-in_default-clause-others
-returns-in_default-clause-others g c =
-    ChangesOne-same c.args.book.now c.commit.new.self c.args.gfid c.args.p.now c.in_default.ensures.same
+pub returns-in-Err-Want-default-clause-others : goal.returns-in-Err-Want-default-clause-others
+returns-in-Err-Want-default-clause-others g c =
+    ChangesOne-same c.args.book.now c.commit.new.self c.args.gfid c.args.p.now c.in-Err-Want-default.ensures.same
 
 -- what the sync made of the file
-commits : (g : Over) (c : In-Ok g) → CommitsLine c.args.s.now c.args.n Sync (path_in c.args.book.now c.args.gfid c.args.p.now)
-    (path_in c.commit.new.self c.args.gfid c.args.p.now) c.args.board.now c.args.own.now c.in-Ok.done.dead.items
-commits g c =
-    let k = c.args.own.now in
-    let x = path_in c.args.book.now c.args.gfid c.args.p.now in
-    let there : c.attr-v.result.1.exists ≡ true = grind (arith, common_steps) in
-    let f = told-file c.attr-v.result x c.attr-v.ensures.attr there in
-    let opened : k.is_open ≡ true = grind (arith, common_steps) in
-    let any : has_any (pending_lines k) ≡ true = grind (arith, common_steps) in
-    commits-synced c.args.s.now c.args.n x (path_in c.commit.new.self c.args.gfid c.args.p.now) c.args.board.now k f.0 c.in_ok-push.push
-    c.in-Ok.done.dead.items c.requires.1.whole.sound f.1 opened any c.in_ok-push.ensures.push
-    (path-changed c.args.book.now c.commit.new.self c.args.gfid c.args.p.now
-    (with_commit (λ (h : PlainHold). h.piece) c.args.n c.in_ok-push.push x) c.in-Ok.ensures.committed)
-    c.in-Ok.ensures.holds c.in-Ok.ensures.dead
-
-pub finish_commit-requires-clause-held : goal.finish_commit-requires-clause-held
-finish_commit-requires-clause-held g c =
-    held-committed c.args.s.now c.args.n Sync c.requires.0 (path_in c.args.book.now c.args.gfid c.args.p.now)
-    (path_in c.commit.new.self c.args.gfid c.args.p.now) c.args.board.now c.args.own.now c.args.logs.now c.take.new.self c.in-Ok.done
-    c.requires.1 c.in_ok-push.ensures.none (commits g (goal.at.finish_commit-requires-clause-held g c).In-Ok)
+module _ (g : Over) (c : In-Ok g) (s : Job) (lines : List ℕ) (told : Noted) (r : ℕ)
+    (sound : EventSound s c.args.n Sync r (idle_kept (owned_of (path_in c.args.book.now c.args.gfid c.args.p.now) told)
+    (own_of c.args.client.now c.args.p.now lines) c.args.logs.now)) where
+  commits : CommitsLine s c.args.n Sync (path_in c.args.book.now c.args.gfid c.args.p.now)
+      (path_in c.commit.new.self c.args.gfid c.args.p.now) told (own_of c.args.client.now c.args.p.now lines) c.in-Ok.done.dead.items
+  commits =
+      let k = own_of c.args.client.now c.args.p.now lines in
+      let x = path_in c.args.book.now c.args.gfid c.args.p.now in
+      let there : c.attr-v.result.1.exists ≡ true = grind (arith, common_steps) in
+      let f = told-file c.attr-v.result x c.attr-v.ensures.attr there in
+      commits-synced s c.args.n x (path_in c.commit.new.self c.args.gfid c.args.p.now) told k f.0 c.take-push.result
+      c.in-Ok.done.dead.items sound.whole.sound f.1 (sym c.if-not-is_open.ensures)
+      (some-line s k.pending sound.whole.sound.pending (c.if-not-has.ensures.0 refl)) refl c.take-push.ensures.push
+      (path-changed c.args.book.now c.commit.new.self c.args.gfid c.args.p.now
+      (with_commit (λ (h : PlainHold). h.piece) c.args.n c.take-push.result x) c.in-Ok.ensures.committed)
+      c.in-Ok.ensures.holds c.in-Ok.ensures.dead
 
 pub finish_commit-requires-clause-apart : goal.finish_commit-requires-clause-apart
 finish_commit-requires-clause-apart g c =
-    apart-committed c.args.s.now c.args.n Sync c.requires.0 (path_in c.args.book.now c.args.gfid c.args.p.now)
-    (path_in c.commit.new.self c.args.gfid c.args.p.now) c.args.board.now c.args.own.now c.args.logs.now c.take.new.self c.in-Ok.done
-    c.requires.1 c.in_ok-push.ensures.none (commits g (goal.at.finish_commit-requires-clause-apart g c).In-Ok)
+    let q = c.requires in
+    let did = (goal.at.finish_commit-requires-clause-apart g c).In-Ok in
+    apart-committed q.0 c.args.n Sync q.3 (path_in c.args.book.now c.args.gfid c.args.p.now)
+    (path_in c.commit.new.self c.args.gfid c.args.p.now) q.2 (own_of c.args.client.now c.args.p.now q.1) c.args.logs.now
+    (pending_of c.take-push.new.self c.args.p.now []) c.in-Ok.done q.4 c.take-push.ensures.none (commits g did q.0 q.1 q.2 q.3 q.4)
 
 pub returns-clause-done : goal.returns-clause-done
-returns-clause-done g c =
+returns-clause-done g c = λ s lines told r sound.
     let x = path_in c.args.book.now c.args.gfid c.args.p.now in
     let y = path_in c.commit.new.self c.args.gfid c.args.p.now in
-    ends-committed c.args.s.now c.args.n Sync c.requires.0 x y c.args.board.now c.args.own.now c.args.logs.now c.take.new.self c.in-Ok.done
-    c.requires.1 c.in_ok-push.ensures.none (commits g (goal.at.returns-clause-done g c).In-Ok) c.in-Ok.ensures.version c.in-Ok.ensures.attr
-    c.finish_commit.new.board c.finish_commit.new.own c.finish_commit.new.logs c.finish_commit.result c.finish_commit.ensures.answer
-    c.finish_commit.ensures.board c.finish_commit.ensures.noted c.finish_commit.ensures.logs
+    let k = own_of c.args.client.now c.args.p.now lines in
+    let did = c.finish_commit.ensures in
+    ends-committed s c.args.n Sync r x y told k c.args.logs.now (pending_of c.take-push.new.self c.args.p.now []) c.in-Ok.done sound
+    c.take-push.ensures.none (commits g (goal.at.returns-clause-done g c).In-Ok s lines told r sound) c.in-Ok.ensures.version
+    c.in-Ok.ensures.attr (own_of c.finish_commit.new.client c.args.p.now) c.finish_commit.new.logs c.finish_commit.result did.answer
+    (on_ok_weaker c.finish_commit.result (λ noted. own-taken c.args.client.now c.take-push.new.self c.finish_commit.new.client c.args.p.now
+    lines (noted_of c.in-Ok.done) c.take-push.ensures.files (noted [])) did.noted) did.logs
 
 pub returns-clause-others : goal.returns-clause-others
 returns-clause-others g c =
     let x = path_in c.args.book.now c.args.gfid c.args.p.now in
     ChangesOne-changed c.args.book.now c.commit.new.self c.args.gfid c.args.p.now
-    (with_commit (λ (h : PlainHold). h.piece) c.args.n c.in_ok-push.push x) c.in-Ok.ensures.committed
+    (with_commit (λ (h : PlainHold). h.piece) c.args.n c.take-push.result x) c.in-Ok.ensures.committed
+
+pub returns-clause-elsewhere : goal.returns-clause-elsewhere
+returns-clause-elsewhere g c =
+    elsewhere-then c.args.client.now c.take-push.new.self c.finish_commit.new.client c.args.p.now c.take-push.ensures.elsewhere
+    c.finish_commit.ensures.elsewhere
