@@ -230,73 +230,7 @@ S 0 held=3 free=1 faults=0
 end
 ";
 
-// A file that is taken away and made again between a read's look-up and its fetch: the read shows
-// the old bytes, whose slot is free after it and not before.
-const UNLINKED_WHILE_READ: &[u8] = b"unifyfs 1 servers=1 clients=2 chunk=64 shmem=1 spill=0
-0 create /unifyfs/a
-0 write /unifyfs/a 0 t:abc
-0 sync /unifyfs/a
-barrier
-1 open /unifyfs/a
-1 read /unifyfs/a 0 9
-0 unlink /unifyfs/a
-0 create /unifyfs/a
-0 write /unifyfs/a 0 t:x
-0 write /unifyfs/a 0 t:y
-0 sync /unifyfs/a
-1 read /unifyfs/a 0 9
-";
-
-const UNLINKED_WHILE_READ_REPORT: &[u8] = b"L 2 ok v=1
-L 3 ok slots=1
-L 4 ok v=2
-L 6 ok v=2
-L 7 ok v=2 n=3 hex=616263
-L 8 ok v=3
-L 9 ok v=4
-L 10 nospace need=1 free=0
-L 11 ok slots=1
-L 12 ok v=5
-L 13 ok v=5 n=1 hex=79
-J /unifyfs/a 2 4 8 9 12
-F /unifyfs/a n=1 frozen=0 md5=415290769594460e2e485922904f345d
-S 0 held=1 free=0 faults=0
-S 1 held=0 free=1 faults=0
-end
-";
-
-// A read with the client's own writes over the file, while another client commits: it shows the
-// file that it looked up, and the next one the new one.
-const OWN_READ_BESIDE_A_COMMIT: &[u8] = b"unifyfs 1 servers=1 clients=2 chunk=64 shmem=4 spill=0
-0 create /unifyfs/a
-0 write /unifyfs/a 0 t:abcdef
-0 sync /unifyfs/a
-barrier
-1 open /unifyfs/a
-1 write /unifyfs/a 1 t:XX
-1 readown /unifyfs/a 0 4
-0 write /unifyfs/a 0 t:zzzzzz
-0 sync /unifyfs/a
-1 readown /unifyfs/a 0 4
-";
-
-const OWN_READ_BESIDE_A_COMMIT_REPORT: &[u8] = b"L 2 ok v=1
-L 3 ok slots=1
-L 4 ok v=2
-L 6 ok v=2
-L 7 ok slots=1
-L 8 ok v=2 n=4 hex=61585864
-L 9 ok slots=1
-L 10 ok v=3
-L 11 ok v=3 n=4 hex=7a58587a
-J /unifyfs/a 2 4 10
-F /unifyfs/a n=6 frozen=0 md5=453e41d218e071ccfb2d1c99ce23906a
-S 0 held=1 free=3 faults=0
-S 1 held=1 free=3 faults=0
-end
-";
-
-pub const RUNS: [Case; 14] = [
+pub const RUNS: [Case; 12] = [
     (ONE_CLIENT, &[], ONE_CLIENT_REPORT),
     (ONE_CLIENT, &[0], ONE_CLIENT_REPORT),
     (ONE_CLIENT, &[7, u32::MAX], ONE_CLIENT_REPORT),
@@ -330,14 +264,4 @@ pub const RUNS: [Case; 14] = [
         COMMIT_IN_SECOND_READ,
     ),
     (HOLE_AND_TWO_PARTS, &[], HOLE_AND_TWO_PARTS_REPORT),
-    (
-        UNLINKED_WHILE_READ,
-        &[0, 0, 0, 1, 1, 0, 0, 0, 1, 1, 0, 0, 0],
-        UNLINKED_WHILE_READ_REPORT,
-    ),
-    (
-        OWN_READ_BESIDE_A_COMMIT,
-        &[0, 0, 0, 1, 1, 1, 0, 0, 1, 1, 1, 1, 1, 1, 1, 1],
-        OWN_READ_BESIDE_A_COMMIT_REPORT,
-    ),
 ];

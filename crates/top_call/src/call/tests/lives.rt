@@ -181,7 +181,6 @@ barrier
 1 sync /unifyfs/a
 1 read /unifyfs/a 0 9
 1 write /unifyfs/a 0 t:abc
-1 unlink /unifyfs/a
 0 trunc /unifyfs/a 5
 ";
 
@@ -195,7 +194,6 @@ L 11 noent v=2
 L 12 noent v=2
 L 13 noent v=2
 L 14 noent v=2
-L 15 noent v=2
 J /unifyfs/a 2 7
 F /unifyfs/a none
 S 0 held=0 free=4 faults=0
