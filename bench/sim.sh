@@ -3,7 +3,8 @@
 # bytes come to a line, how the time of a line grew from the size before it, and how many MiB of memory
 # the program had at most. A growth of 1.00 is in proportion to the job. The memory is measured by the
 # command /usr/bin/time of GNU; where that isn't there, none is printed. Then it times reads of a file
-# of few fragments and of one of many. It fails where a line's time grows by more than 1.3 from a job's
+# of few fragments and of one of many, and reads with a client's own pending writes of few fragments
+# and of many. It fails where a line's time grows by more than 1.3 from a job's
 # first size to its second, where a read of the file of many fragments takes more than 3 times as long
 # as of the other, or where the program has more than 64 MiB, or 32 for the largest log.
 #
@@ -150,6 +151,20 @@ reads() {
     }'
 }
 
+# A job of one client with a file of so many fragments of 64 bytes, each 64 bytes behind the one before
+# it, with as many pending writes of 32 bytes, one into the middle of each fragment, and with so many
+# reads of all of it that show these.
+own_reads() {
+    awk -v fragments="$1" -v reads="$2" 'BEGIN {
+        print "unifyfs 1 servers=1 clients=1 chunk=64 shmem=32768 spill=0"
+        print "0 create /unifyfs/bench"
+        for (k = 0; k < fragments; k++) printf "0 write /unifyfs/bench %d p:%d:64\n", 128 * k, k
+        print "0 sync /unifyfs/bench"
+        for (k = 0; k < fragments; k++) printf "0 write /unifyfs/bench %d p:%d:32\n", 128 * k + 16, k
+        for (i = 0; i < reads; i++) printf "0 readown /unifyfs/bench 0 %d\n", 128 * fragments
+    }'
+}
+
 # A job of five lines with the largest log that a header allows, and three small writes.
 largest_log() {
     echo 'unifyfs 1 servers=1 clients=1 chunk=4096 shmem=65536 spill=0'
@@ -246,19 +261,19 @@ times phases 1.3 64 8000 60000
 times reuse 1.3 64 8000 60000 65010
 times pieces 1.3 64 8000 60600
 
-# Nanoseconds of a read of a file of so many fragments: what the reads add to the job without them.
-nanoseconds_of_a_read() {
-    local fragments=$1 reads=40000 without with
-    reads "$fragments" 0 >"$work/job"
+# Nanoseconds that so many reads add to the job without them, divided by a number.
+nanoseconds_of() {
+    local job=$1 fragments=$2 reads=$3 by=$4 without with
+    "$job" "$fragments" 0 >"$work/job"
     without=$(shortest "$work/job")
-    reads "$fragments" "$reads" >"$work/job"
+    "$job" "$fragments" "$reads" >"$work/job"
     with=$(shortest "$work/job")
     check_report
-    printf '%s' "$(((with - without) * 1000 / reads))"
+    printf '%s' "$(((with - without) * 1000 / by))"
 }
 
-few=$(nanoseconds_of_a_read 16)
-many=$(nanoseconds_of_a_read 16384)
+few=$(nanoseconds_of reads 16 40000 40000)
+many=$(nanoseconds_of reads 16384 40000 40000)
 printf '\nreads\n%10s %17s\n%10d %17d\n%10d %17d\n' fragments nanoseconds/read 16 "$few" 16384 "$many"
 if [ "$few" -le 0 ]; then
     echo "sim.sh: reads of the short file took no time that could be measured" >&2
@@ -266,6 +281,12 @@ if [ "$few" -le 0 ]; then
 fi
 times_as_long=$(awk -v few="$few" -v many="$many" 'BEGIN { printf "%.2f", many / few }')
 hold_to 'the time of a read of 16384 fragments over that of 16' "$times_as_long" 3
+
+# In each of these jobs the reads go over 65,536 fragments of the file.
+printf '\nown_reads\n%10s %21s\n' fragments nanoseconds/fragment
+for fragments in 256 1024 4096 16384; do
+    printf '%10d %21d\n' "$fragments" "$(nanoseconds_of own_reads "$fragments" $((65536 / fragments)) 65536)"
+done
 
 largest_log >"$work/job"
 memory=$(peak "$work/job")
