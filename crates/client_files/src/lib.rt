@@ -13,6 +13,9 @@
 //!   attributes; where both are the same, what was noted before.
 //! - `Board::set` keeps this version with its attributes, in place of what was told before.
 //! - `Files::is_open` and `Files::front` tell whether a path is open, and the front on it.
+//! - `Files::at_front` gives what the client knows there (`Noted`): the version that is the front,
+//!   with the attributes of the file at it. Where the client noted the version that was told, they
+//!   are those that it noted.
 //! - `Files::may_write` tells whether the client may write a path (`May`): it must be open, and at
 //!   the front have a file that isn't frozen.
 //!
@@ -47,7 +50,9 @@
 //! };
 //! board.set(alloc, &path, Version(3), none)?;
 //! let told = files.may_write(&board, &path);
-//! // `noted` is `May::Yes`, and `told` is `May::NoEnt(Version(3))`
+//! let known = files.at_front(&board, &path);
+//! // `noted` is `May::Yes`, and `told` is `May::NoEnt(Version(3))`; `known` has version 3, and that
+//! // there is no file
 //! ```
 #![tactic(auto)]
 

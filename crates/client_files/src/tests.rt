@@ -38,7 +38,10 @@ fn the_example_at_the_head_of_the_crate(rt: HostRuntime) -> Result<(), Fail> {
     board.set(alloc, &path, Version(3), none)?;
     let told = files.may_write(&board, &path);
     assert_eq!(rt; noted, May::Yes);
+    let known = files.at_front(&board, &path);
     assert_eq!(rt; told, May::NoEnt(Version(3)));
+    assert_eq!(rt; known.version, Version(3));
+    assert!(rt; !known.attr.exists);
     assert_eq!(rt; files.front(&board, &path), Version(3));
     assert!(rt; files.is_open(&path));
     Ok(())

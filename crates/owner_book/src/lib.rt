@@ -18,6 +18,13 @@
 //!   `MayCommit`. It puts the push over the file: its fragments in order, with the holds of the
 //!   pieces that they name. It gives the version, what is told of the file, and the holds of
 //!   exactly those pieces of which no byte is left in the file.
+//! - `trunc` asks what `commit` does, and for a size that is at most that of the longest file, 2^40.
+//!   It puts the push over the file, and then cuts it to that size, or extends it to it by bytes
+//!   that nobody wrote. It gives the version, what is told of the file, and the holds of exactly
+//!   those pieces, of the file and of the push, of which no byte is left.
+//! - `unlink` asks that the path has its holds, `HasHolds`. It takes the file away, also a frozen
+//!   one, and gives the version, that there is no file, and the holds of all its pieces. The
+//!   journal goes on, so a file that is created there again has a later version.
 //! - `lookup` asks that the path has its holds, `HasHolds`. It gives the version, what is told of
 //!   the file, the fragments of a range, cut to it, and a pin of each piece that they name, once; a
 //!   piece whose hold has no room for a pin is `bare` in its place. A pin takes 1 from the room of
@@ -57,6 +64,11 @@
 //! let found = book.lookup(alloc, 7, &path, 1, 6)?;
 //! // the fragment of the piece that is 3 bytes long and begins at place 1 of the file and of the
 //! // piece, one pin of that piece, and no bare piece
+//! let none = Push { frags: Vec::new(alloc), holds: Vec::new(alloc) };
+//! let cut = book.trunc(alloc, 7, &path, LineNo(5), 2, none).ok().ok_or("there is memory")?;
+//! // version 3, a file of 2 bytes, and no dead hold, since these are of the piece
+//! let gone = book.unlink(alloc, 7, &path, LineNo(6))?;
+//! // version 4, no file, and the hold of the piece
 //! ```
 #![tactic(auto)]
 

@@ -8,17 +8,28 @@
 //!
 //! Fragments with their holds are `HeldSpans`, and the table alone is `PieceTable`.
 //!
-//! **Fragments with holds.** Each piece is put once: before a put, `get` finds no hold of its
-//! piece. A call that may want memory makes room first, so after `Err` all is as before, and what
-//! was given comes back.
+//! **Fragments with holds.** Calls that put, cut, clear or take ask for `AreHeld`, and keep it: each
+//! piece that is named has a ready hold of its own, in which its fragments lie, and no other piece
+//! has one. A new one has it. After `Err` all is as before, and what was given comes back.
 //!
-//! Calls that put, cut, clear or take ask for `AreHeld`, and keep it: each piece that is named has
-//! a ready hold of its own, in which its fragments lie, and no other piece has one. `hold_of` lends
-//! the hold of a piece to change; a ready hold of the same piece and length, left there, keeps it
-//! too. `take_push` gives all fragments and holds as one push, and leaves none, as does `take_all`
-//! into vectors that have room. `put_push` puts a push of new pieces over the fragments. `reserve`
-//! makes room for so many puts: each of them takes no memory then, while `dead` has room for a hold
-//! of each fragment in its range.
+//! - `put` puts one fragment over the others, by a hold of its piece. The fragment has a byte, ends
+//!   within the longest file, and in its piece at a place below 2^32 (`IsSpan`); the hold is ready,
+//!   of that piece, and at least as long as the fragment reaches in it; and no fragment here names
+//!   the piece, for which `get` is the test.
+//! - `put_push` puts a push over the fragments. It is well formed (`IsWellFormedPush`): its
+//!   fragments have bytes, stand in order and apart, and end within the longest file and in their
+//!   pieces, and it has one hold of each piece that they name, and no other. Its holds are ready,
+//!   and no fragment here names one of its pieces.
+//! - `cut` drops all bytes from a place on, and `clear` all fragments.
+//! - `take_push` gives all fragments and holds as one push, and leaves none. So does `take_all`, in
+//!   two vectors that have nothing, and room for all fragments and for the hold of each piece; it
+//!   takes no memory.
+//! - `reserve` makes room for so many puts: each of them takes no memory then, while `dead` has
+//!   room for a hold of each fragment that lies whole in its range. A cut takes none while `dead`
+//!   has room for the holds of all pieces.
+//! - `hold_of` lends the hold of a piece to change, or gives none where no fragment names it. A
+//!   ready hold of the same piece and length, left there, keeps `AreHeld`; any other may break it.
+//! - `is_empty`, `piece_count`, `fragment_count`, `next` and `get` look, and ask nothing.
 //!
 //! ```
 //! let mut kept: HeldSpans<MemHold, SpanList> = HeldSpans::new(alloc);
@@ -37,10 +48,17 @@
 //! ```
 //!
 //! **The table alone.** It knows no fragments: whoever keeps them says when one more of them names
-//! a piece, and when one fewer does. `enter` takes the hold of a new piece, which one fragment
-//! names. `more` counts a piece once more, and `less` once less: where that was the last one, it
-//! gives the hold. `get` and `hold` lend the hold of a piece, to read and to change, and `take_all`
-//! moves all holds out. After `reserve` so many pieces are entered without taking memory.
+//! a piece, and when one fewer does.
+//!
+//! - `enter` takes a hold that is ready, of a piece that isn't there, which one fragment names.
+//! - `more` counts a piece that is there once more; it is named by fewer than 2^64 - 1 fragments.
+//! - `less` counts a piece that is there once less. Where that was the last one, it gives the hold.
+//! - `get` and `hold` lend the hold of a piece, to read and to change, or give none where it isn't
+//!   there. `len` is the number of pieces.
+//! - `take_all` moves all holds out, each of which is of the piece that it stands for, into a vector
+//!   with room for them.
+//! - After `reserve` so many pieces are entered without taking memory. Where there is none, `enter`
+//!   gives the hold back, and all is as before.
 //!
 //! ```
 //! let mut pieces = PieceTable::new(alloc);

@@ -10,6 +10,13 @@
 //! `reserve` makes room for so many more fragments, and changes none: while there is room for two,
 //! a put takes no memory.
 //!
+//! `cut` drops all bytes from a place on, and `next` gives the first whole fragment that ends after
+//! a place, if there is one. Neither asks for anything, or takes memory.
+//!
+//! A list is made of fragments and taken apart again without taking memory: `SpanList::from_frags`
+//! asks that each may be put, and ends before each later one begins (`AreSpans`), and that is so of
+//! what `SpanList::into_frags` gives.
+//!
 //! `rest_before` and `rest_from` cut one fragment at a place: what of it stands before, and what
 //! from there on, with the place in its piece where that begins.
 //!
@@ -40,6 +47,9 @@
 //! let after = list.next(5);
 //! // the last two bytes go
 //! list.cut(8);
+//! let frags = list.into_frags();
+//! // 0 to 4, 4 to 6, and 6 to 8
+//! let again = SpanList::from_frags(frags);
 //! ```
 #![tactic(auto)]
 

@@ -90,6 +90,10 @@ fn the_example_at_the_head_of_the_crate(rt: HostRuntime) -> Result<(), Fail> {
     assert_eq!(rt; after, Some(over));
     let want = [frag(0, 4, 1, 0), frag(4, 2, 2, 0), frag(6, 2, 1, 6)];
     assert_eq!(rt; listed(alloc, &list)?.as_slice(), want.as_slice());
+    let frags = list.into_frags();
+    assert_eq!(rt; frags.as_slice(), want.as_slice());
+    let again = SpanList::from_frags(frags);
+    assert_eq!(rt; again.next(5), Some(over));
     Ok(())
 }
 

@@ -7,9 +7,8 @@ ghost use Rattle.owner_book.specs.Commits.{AllHaveHolds};
 
 use super::*;
 
-// The example at the head of the crate.
 #[test]
-fn a_lookup_cuts_a_fragment_and_pins_its_piece(rt: HostRuntime) -> Result<(), Fail> {
+fn the_example_at_the_head_of_the_crate(rt: HostRuntime) -> Result<(), Fail> {
     let alloc = rt.alloc();
     let path = Path::read(alloc, b"/unifyfs/a")?;
     let mut book: OwnerBook<MemHold, SpanList> = OwnerBook::new(alloc)?;
@@ -40,6 +39,20 @@ fn a_lookup_cuts_a_fragment_and_pins_its_piece(rt: HostRuntime) -> Result<(), Fa
     let pinned = lines(alloc, &found.holds)?;
     assert_eq!(rt; pinned.as_slice(), [4].as_slice());
     assert!(rt; found.bare.is_empty());
+    let none = Push {
+        frags: Vec::new(alloc),
+        holds: Vec::new(alloc),
+    };
+    let cut = book
+        .trunc(alloc, 7, &path, LineNo(5), 2, none)
+        .ok()
+        .ok_or("there is memory")?;
+    assert_eq!(rt; (cut.v, cut.attr), (Version(3), file(2)));
+    assert!(rt; cut.dead.is_empty());
+    let gone = book.unlink(alloc, 7, &path, LineNo(6))?;
+    assert_eq!(rt; gone.v, Version(4));
+    assert!(rt; !gone.attr.exists);
+    assert_eq!(rt; lines(alloc, &gone.dead)?.as_slice(), [4].as_slice());
     Ok(())
 }
 
