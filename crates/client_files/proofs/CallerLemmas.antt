@@ -1,5 +1,5 @@
 -- What callers need of the words of contracts: of the later of two versions, and of what changed at one path.
-use Rattle.fs_types.proofs.Common.{◌≡◌, ◌≢◌, ◌⊎◌, ℕ, max, Bool, true, false, List, nat_le, bytes_eq, bytes_eq-Decides, cond_both, refl}
+use Rattle.fs_types.proofs.Common.{◌≡◌, ◌≢◌, ◌⊎◌, ℕ, max, Bool, true, false, List, nat_le, bytes_eq, bytes_eq-Decides, refl}
 use Rattle.fs_types.proofs.Common.{arith, inl, inr, ap, ◌∙◌, sym, true≢false, if◌then◌else◌}
 use Rattle.std.proofs.lemmas.Bool.Decides.{nat_tests}
 use Rattle.client_files.specs.Noted.{later_of}

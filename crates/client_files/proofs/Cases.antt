@@ -1,8 +1,8 @@
 -- The definitions at single values.
-use Rattle.fs_types.proofs.Common.{◌≡◌, ◌≤◌, ◌<◌, ℕ, Bool, true, false, List, [], ◌∷◌, Contains, arith, inl, inr, refl, codes}
+use Rattle.fs_types.proofs.Common.{◌≡◌, ◌≤◌, ◌<◌, ℕ, true, false, List, [], ◌∷◌, Contains, arith, inl, inr, refl, codes}
 use Rattle.fs_types.proofs.Common.{ap, sym, true≢false, slice_index_or, zero, suc}
 use Rattle.std.proofs.Common.{lit<}
-use Rattle.client_files.specs.Deeds.{Deed, opening, noting, IsGreatest, IsGreatestNoted}
+use Rattle.client_files.specs.Deeds.{Deed, opening, noting, telling, last_told, IsGreatest, IsGreatestNoted}
 use Rattle.client_files.specs.Kept.{may_write_at, untouched, with_note, with_open}
 use Rattle.client_files.specs.Noted.{later_of, unseen}
 use Rattle.client_files.specs.declared.may.May.TheVariants.{Yes, NoEnt, ReadOnly}
@@ -67,7 +67,17 @@ lower_note_is_not_the_greatest is =
     let below : 6 ≤ 4 = is.greatest (gone 6) noted in
     omega arith
 
-front_below_the_board : IsGreatest two (file 7 0) a (gone 6) → ⊥
+-- then all were told of version 7, after they had been told of 8
+abbrev then_told : List Deed
+then_told = telling a (gone 8) ∷ opening a ∷ noting a (file 4 7) ∷ noting a (gone 6) ∷ telling a (file 7 0) ∷ []
+
+last_of_two_tellings : last_told then_told a ≡ file 7 0
+last_of_two_tellings = refl
+
+nothing_was_told_of_another : last_told then_told (codes "/unifyfs/b") ≡ unseen
+nothing_was_told_of_another = refl
+
+front_below_the_board : IsGreatest then_told a (gone 6) → ⊥
 front_below_the_board is = let below : 7 ≤ 6 = is.board in omega arith
 
 -- versions that differ are not one
@@ -80,7 +90,7 @@ file_was_not_noted (suc zero) short is = apart (file 4 7) (file 6 7) (omega arit
 file_was_not_noted (suc (suc zero)) short is = true≢false (let same : gone 6 ≡ file 6 7 = cc in sym (ap (λ n. n.attr.exists) same))
 file_was_not_noted (suc (suc (suc k))) short is = omega arith
 
-attributes_of_another_version : IsGreatest two unseen a (file 6 7) → ⊥
+attributes_of_another_version : IsGreatest two a (file 6 7) → ⊥
 attributes_of_another_version is = elim is.said [
   | inl none ↦ apart (file 6 7) unseen (omega arith) none
   | inr said ↦ elim said [

@@ -1,7 +1,7 @@
 -- Values under their paths: what a map has at each path once it has another value at one of them.
 use Rattle.std.specs.Global.{Global}
 use Rattle.std.specs.Map.{AreApart, IsKeyTest, KeepsOthers}
-use Rattle.fs_types.proofs.Common.{◌≡◌, ℕ, Bool, true, false, List, Option, Some, Vec, bytes_eq, bytes_eq-Decides}
+use Rattle.fs_types.proofs.Common.{◌≡◌, ℕ, Bool, false, List, Some, Vec, bytes_eq, bytes_eq-Decides}
 use Rattle.fs_types.proofs.Common.{ap, sym, subst, ◌∙◌, false_from_ne_true}
 use Rattle.indexmap.specs.IndexMap.{IndexMap, UpdatesBy}
 use Rattle.client_files.specs.PathMap.{Changes, Entries, entry_at}

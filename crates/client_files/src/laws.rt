@@ -1,14 +1,17 @@
 //! Laws of files and boards. Each function does nothing: its contract is the law.
 
-ghost use Rattle.client_files.specs.Deeds.{FrontIsGreatest, NewStands, NotedStands, OpenedStands, SameStands, StaysOpen};
+ghost use Rattle.client_files.specs.Deeds.{FrontIsGreatest, NewStands, NotedStands, OpenedStands};
+ghost use Rattle.client_files.specs.Deeds.{SameStands, StaysOpen, ToldStands};
 
-/// What is kept of a client's paths stands for what the client did since it began: open are the
-/// paths that it opened, and of each path the greatest of the versions that it noted is kept. So it
-/// is from the first, and after each call, also where memory ran out.
+/// What is kept of a client's paths, and the board, stand for what the client did and what all were
+/// told since both began: open are the paths that it opened, of each path the greatest of the
+/// versions that it noted is kept, and on the board is what was told last. So it is from the first,
+/// and after each call, also where memory ran out.
 pub fn files_stand_for_what_was_done()
     ensures new { NewStands }
     ensures opened { OpenedStands }
     ensures noted { NotedStands }
+    ensures told { ToldStands }
     ensures same { SameStands }
 {}
 

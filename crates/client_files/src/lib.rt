@@ -22,8 +22,9 @@
 //! Each call that changes something takes a path, and leaves every other as it is. It may take
 //! memory; where that ran out all is as it was. The others take none.
 //!
-//! **Laws.** What is kept stands for what the client did since it began: open are the paths that it
-//! opened, and of each path the greatest version is kept. A path that was opened stays open. The
+//! **Laws.** What is kept stands for what the client did and what all were told since both began:
+//! open are the paths that it opened, of each path the greatest version that it noted is kept, and on
+//! the board is what was told last. A path that was opened stays open. The
 //! front is the greatest of the versions that were noted or told last, and what is known there was
 //! noted or told with that version.
 //!

@@ -1,5 +1,5 @@
 -- The definitions at single values.
-use Rattle.fs_types.proofs.Common.{◌≡◌, ◌≤◌, ◌<◌, ℕ, List, [], ◌∷◌, Some, None, Vec, Global, arith, codes, refl, slice_index_or}
+use Rattle.fs_types.proofs.Common.{◌≡◌, ◌≤◌, ◌<◌, ℕ, List, [], ◌∷◌, Some, None, Vec, Global, ap, arith, codes, refl, slice_index_or}
 use Rattle.fs_types.proofs.Common.{zero, suc}
 use Rattle.std.proofs.Common.{lit<}
 use Rattle.fs_types.specs.Pieces.{Fragment}
@@ -7,20 +7,21 @@ use Rattle.fs_types.specs.declared.push.Replica.{Replica}
 use Rattle.shelf_store.specs.Calls.{IsPutThere, below_version, from_version, least, with_floor, with_replica}
 use Rattle.shelf_store.specs.Deeds.{Allows, Deed, IsGreatestDropped, IsGreatestPut, dropping, putting}
 use Rattle.shelf_store.specs.Kept.{untouched}
+use Rattle.shelf_store.proofs.Stands.{same-put}
 use Rattle.shelf_store.specs.declared.put.Put.TheVariants.{Kept, Older}
 use Rattle.shelf_store.specs.declared.shelf_path.ShelfPath.{ShelfPath}
 
 abbrev a : List ℕ
 a = codes "/unifyfs/a"
 
--- what was put and dropped on the path: version 4 came, then what is below 6 was dropped, and then version 5 came
-abbrev deeds : List Deed
-deeds = putting a 4 ∷ dropping a 6 ∷ putting a 5 ∷ []
-
 module _ {H : Type 0} (frags : Vec Fragment Global) (holds : Vec H Global) where
   -- the file of that path at a version
   abbrev file : ℕ → Replica H
   file v = record { path = a; version = v; size = 5; frags = frags; holds = holds }
+
+  -- what was put and dropped on the path: version 4 came, then what is below 6 was dropped, and then version 5 came
+  abbrev deeds : List (Deed H)
+  deeds = putting (file 4) ∷ dropping a 6 ∷ putting (file 5) ∷ []
 
   -- ---- put, drop_below, put
 
@@ -90,20 +91,21 @@ module _ {H : Type 0} (frags : Vec Fragment Global) (holds : Vec H Global) where
   replica_below_the_floor is = let allowed : 6 ≤ 4 = is.allowed in omega arith
 
   lower_version_than_was_put : IsGreatestPut deeds a 0 (file 4) → ⊥
-  lower_version_than_was_put is = let lower : 5 ≤ 4 = is.greatest 5 (2, lit< tt, refl) in omega arith
+  lower_version_than_was_put is = let lower : 5 ≤ 4 = is.greatest (file 5) refl (2, lit< tt, refl) in omega arith
 
-lowered_floor : IsGreatestDropped deeds a 5 → ⊥
-lowered_floor is = let lower : 6 ≤ 5 = is.greatest 6 (1, lit< tt, refl) in omega arith
+  lowered_floor : IsGreatestDropped deeds a 5 → ⊥
+  lowered_floor is = let lower : 6 ≤ 5 = is.greatest 6 (1, lit< tt, refl) in omega arith
 
--- a version that was put is one of the two
-put_versions : (k v : ℕ) → k < 3 → slice_index_or deeds k (putting a v) ≡ putting a v → v < 6
-put_versions zero v short is = let same : putting a 4 ≡ putting a v = is in let four : 4 ≡ v = cc in omega arith
-put_versions (suc zero) v short is = let other : dropping a 6 ≡ putting a v = is in absurd cc
-put_versions (suc (suc zero)) v short is = let same : putting a 5 ≡ putting a v = is in let five : 5 ≡ v = cc in omega arith
-put_versions (suc (suc (suc k))) v short is = omega arith
+  -- a replica that was put is of one of the two versions
+  put_versions : (k : ℕ) (r : Replica H) → k < 3 → slice_index_or deeds k (putting r) ≡ putting r → r.version < 6
+  put_versions zero r short is = let four : ◌≡◌ {A = ℕ} 4 r.version = ap (λ t. t.version) (same-put (file 4) r is) in omega arith
+  put_versions (suc zero) r short is = let other : dropping a 6 ≡ putting r = is in absurd cc
+  put_versions (suc (suc zero)) r short is =
+      let five : ◌≡◌ {A = ℕ} 5 r.version = ap (λ t. t.version) (same-put (file 5) r is) in omega arith
+  put_versions (suc (suc (suc k))) r short is = omega arith
 
-no_front_allows_any : (front : ℕ) → Allows deeds a front → ⊥
-no_front_allows_any front allows =
-    let dropped : 6 ≤ allows.version = allows.stays 6 (1, lit< tt, refl) in
-    let put = put_versions allows.put.0 allows.version allows.put.1 allows.put.2 in
-    omega arith
+  no_front_allows_any : (front : ℕ) → Allows deeds a front → ⊥
+  no_front_allows_any front allows =
+      let dropped : 6 ≤ allows.replica.version = allows.stays 6 (1, lit< tt, refl) in
+      let put = put_versions allows.put.0 allows.replica allows.put.1 allows.put.2 in
+      omega arith

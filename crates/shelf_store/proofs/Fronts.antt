@@ -7,16 +7,18 @@ use Rattle.shelf_store.specs.Deeds.{Allows, Deed, IsGreatestDropped, IsGreatestP
 use Rattle.shelf_store.specs.Deeds.{FindsTheGreatest, FindsWhatIsAllowed, FloorsNeverFall, VersionsNeverFall}
 use Rattle.shelf_store.specs.Kept.{KeptShelf, floor_in, replica_in}
 use Rattle.shelf_store.proofs.CallerLemmas.{found-stands, version-cases}
+use Rattle.shelf_store.proofs.Stands.{last-there}
 
 module _ {H : Type 0} where
   -- what is found is allowed
-  allowed-found : (deeds : List Deed) (p : List ℕ) (floor front : ℕ) (o : Option (Replica H)) → IsGreatestDropped deeds p floor
+  allowed-found : (deeds : List (Deed H)) (p : List ℕ) (floor front : ℕ) (o : Option (Replica H)) → IsGreatestDropped deeds p floor
       → IsWhatStands deeds p floor o → IsSome (from_version front o) → Allows deeds p front
   allowed-found deeds p floor front None dropped is found = absurd (false≢true found)
   allowed-found deeds p floor front (Some r) dropped is found = elim (version-cases front r) [
     | inl high ↦ record {
-      version = r.version;
-      put = is.put;
+      replica = r;
+      own = is.own;
+      put = last-there deeds r is.last;
       at_front = high.0;
       stays = λ v there. omega (arith, dropped.greatest v there, is.allowed);
     }
@@ -24,15 +26,15 @@ module _ {H : Type 0} where
   ]
 
   -- what is allowed is found
-  found-allowed : (deeds : List Deed) (p : List ℕ) (floor front : ℕ) (o : Option (Replica H)) → IsGreatestDropped deeds p floor
+  found-allowed : (deeds : List (Deed H)) (p : List ℕ) (floor front : ℕ) (o : Option (Replica H)) → IsGreatestDropped deeds p floor
       → IsWhatStands deeds p floor o → Allows deeds p front → IsSome (from_version front o)
   found-allowed deeds p floor front None dropped is allows = absurd (elim dropped.dropped [
-    | inl none ↦ omega (arith, is allows.version allows.put)
-    | inr there ↦ omega (arith, is allows.version allows.put, allows.stays floor there)
+    | inl none ↦ omega (arith, is allows.replica allows.own allows.put)
+    | inr there ↦ omega (arith, is allows.replica allows.own allows.put, allows.stays floor there)
   ])
   found-allowed deeds p floor front (Some r) dropped is allows = elim (version-cases front r) [
     | inl high ↦ subst IsSome (sym high.1) refl
-    | inr low ↦ absurd (omega (arith, low.0, is.greatest allows.version allows.put, allows.at_front))
+    | inr low ↦ absurd (omega (arith, low.0, is.greatest allows.replica allows.own allows.put, allows.at_front))
   ]
 
   pub finds-what_is_allowed : FindsWhatIsAllowed H
@@ -42,7 +44,7 @@ module _ {H : Type 0} where
   )
 
   -- what stands on a path
-  greatest-there : (deeds : List Deed) (shelf : KeptShelf H) (p : List ℕ) (r : Replica H) → StandsFor deeds shelf
+  greatest-there : (deeds : List (Deed H)) (shelf : KeptShelf H) (p : List ℕ) (r : Replica H) → StandsFor deeds shelf
       → replica_in shelf p ≡ Some r → IsGreatestPut deeds p (floor_in shelf p) r
   greatest-there deeds shelf p r stands there = subst (IsWhatStands deeds p (floor_in shelf p)) there (stands p).replica
 
@@ -58,5 +60,6 @@ module _ {H : Type 0} where
 
   pub versions-never_fall : VersionsNeverFall H
   versions-never_fall deeds since old new p r s before after was is =
-      (greatest-there (deeds ++ since) new p s after is).greatest r.version
-      (Contains-append_left deeds since (putting p r.version) (greatest-there deeds old p r before was).put)
+      let stood = greatest-there deeds old p r before was in
+      (greatest-there (deeds ++ since) new p s after is).greatest r stood.own
+      (Contains-append_left deeds since (putting r) (last-there deeds r stood.last))

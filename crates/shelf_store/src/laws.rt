@@ -6,10 +6,11 @@ ghost use Rattle.shelf_store.specs.Deeds.{FindsTheGreatest, FindsWhatIsAllowed};
 ghost use Rattle.shelf_store.specs.Deeds.{FloorsNeverFall, VersionsNeverFall};
 
 /// A shelf stands for what was put and dropped since it was new. The floor of each path is the
-/// greatest version below which it was dropped. The replica that stands there is of the greatest
-/// version that was put there, which is at least the floor; where none stands, all that were put
-/// are of versions below the floor. So it is from the first, and after each call, also where memory
-/// ran out, and where a replica of the same path and version was left behind a loan.
+/// greatest version below which it was dropped. The replica that stands there, with its fragments
+/// and holds, is the last one of the greatest version that was put there, which is at least the
+/// floor; where none stands, all that were put are of versions below the floor. So it is from the
+/// first, and after each call, also where memory ran out. What is left behind a loan, a replica of
+/// the same path and version, counts as put.
 pub fn shelves_stand_for_what_was_put_and_dropped<H>()
     ensures new { NewStands H }
     ensures put { PutStands H }
@@ -20,7 +21,7 @@ pub fn shelves_stand_for_what_was_put_and_dropped<H>()
 
 /// A look-up finds a replica exactly where the front allows one of those that were put on the path:
 /// one of a version at least the front, which was never dropped. What it finds is of the path, and
-/// of the greatest version that was put there.
+/// the last of those of the greatest version that were put there.
 pub fn a_shelf_finds_exactly_what_a_front_allows<H>()
     ensures allowed { FindsWhatIsAllowed H }
     ensures greatest { FindsTheGreatest H }

@@ -20,11 +20,11 @@
 //!
 //! **What a caller owes.** What is left behind the reference of `find` stands on the path then,
 //! whatever it is. Who changes it leaves its path and its version as they are (`IsOfSameVersion`):
-//! the laws ask that of a loan.
+//! the laws ask that of a loan, and count what is left as put.
 //!
 //! **Laws.** A shelf finds exactly the replicas that a front allows: one is found exactly where one
-//! of a version at least the front was put and never dropped, and it is of the greatest version
-//! that was put on the path. Floors and versions never fall.
+//! of a version at least the front was put and never dropped, and it is the last of those of the
+//! greatest version that were put on the path. Floors and versions never fall.
 //!
 //! An example:
 //!
