@@ -23,8 +23,8 @@
 //! memory; where that ran out all is as it was. The others take none.
 //!
 //! **Laws.** What is kept stands for what the client did and what all were told since both began:
-//! open are the paths that it opened, of each path the greatest version that it noted is kept, and on
-//! the board is what was told last. A path that was opened stays open. The
+//! open are the paths that it opened, of each path the greatest version that it noted is kept, and
+//! on the board is what was told last. A path that was opened stays open. The
 //! front is the greatest of the versions that were noted or told last, and what is known there was
 //! noted or told with that version.
 //!
@@ -52,8 +52,8 @@
 //! board.set(alloc, &path, Version(3), none)?;
 //! let told = files.may_write(&board, &path);
 //! let known = files.at_front(&board, &path);
-//! // `noted` is `May::Yes`, and `told` is `May::NoEnt(Version(3))`; `known` has version 3, and that
-//! // there is no file
+//! // `noted` is `May::Yes`, and `told` is `May::NoEnt(Version(3))`
+//! // `known` has version 3, and that there is no file
 //! ```
 #![tactic(auto)]
 

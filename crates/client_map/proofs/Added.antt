@@ -86,10 +86,6 @@ module _ {H : Type 0} {piece : H → Piece} {byte_count : H → ℕ} {chunk : �
         ≡ (if nat_le w.off k && nat_lt k (w.off + w.len) then Some (mark_of chunk w.line (k - w.off)) else mark_at old.fragments k)
     marks-added = marks-put chunk w are.some old.fragments new.fragments put_over
 
-    -- all fragments end by a place by which it ends, and all before
-    pub ends-added : (e : ℕ) → All (λ f. end_of f ≤ e) old.fragments → w.off + w.len ≤ e → All (λ f. end_of f ≤ e) new.fragments
-    ends-added = ends-put chunk w are.some old.fragments new.fragments put_over
-
     -- a piece that none of its parts names keeps its hold while some fragment names it
     hold-other : (q : Piece) → is_named (parts_of chunk w) q ≡ false
         → new.hold_of q ≡ (if is_named new.fragments q then old.hold_of q else None)

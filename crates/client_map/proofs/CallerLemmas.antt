@@ -3,11 +3,11 @@
 -- what a line writes is told by the holds of its parts
 pub use Rattle.client_map.proofs.WriteParts.{write_of-parts}
 -- when it may be added, and which mark stands at each place then, where all ends, and which hold each piece has
-pub use Rattle.client_map.proofs.Added.{AreOfParts, part-holds, may-add, marks-added, ends-added, holds-added}
+pub use Rattle.client_map.proofs.Added.{AreOfParts, part-holds, may-add, marks-added, holds-added}
 -- all fragments that are pending end by the last end, which is the first such place, and within the longest file
 pub use Rattle.client_map.proofs.Ends.{pending_end-ends, pending_end-least, pending_end-in_file}
 -- what is pending on the path of a change, and on every other
-pub use Rattle.client_map.proofs.Paths.{at-changed, at-other, at-another}
+pub use Rattle.client_map.proofs.Paths.{at-changed, at-other}
 use Rattle.fs_types.proofs.Common.{◌≡◌, ℕ, ◌≤◌, Bool, List, Some, IsTrue, refl, sym, subst, cond_both, arith, none-some, bytes_eq}
 use Rattle.fs_types.specs.Fragments.{end_of}
 use Rattle.fs_types.specs.Pieces.{Piece}

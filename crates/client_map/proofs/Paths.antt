@@ -69,11 +69,6 @@ module _ {H : Type 0} where
       → pending_in new q ≡ pending_in old q
   at-other old new p x changes q other = changes.paths q ∙ ap (λ b. if b then x else pending_in old q) other
 
-  pub at-another : (old new : MapKept H) (p : List ℕ) (x : Held H) → Changes old new p x → (q : List ℕ) → q ≢ p
-      → pending_in new q ≡ pending_in old q
-  at-another old new p x changes q another =
-      at-other old new p x changes q (false_from_ne_true (bytes_eq q p) (λ same. another ((bytes_eq-Decides q p).0 same)))
-
   -- a change to what was there is none
   pub unchanged : (old new : MapKept H) (p : List ℕ) (x : Held H) → Changes old new p x → x ≡ pending_in old p → IsAsBefore old new
   unchanged old new p x changes same = record {

@@ -13,8 +13,7 @@
 //! **Calls.** Each but `new` takes a path, which is found by its text, and leaves every other path
 //! as it is:
 //!
-//! - `new` gives a map in which nothing is pending, for parts of at most so many bytes, which are at
-//!   least 1.
+//! - `new` gives a map in which nothing is pending, for parts of at most so many bytes, at least 1.
 //! - `add` asks that the path has its holds, `HasHolds`, and for a write that may be added,
 //!   `MayAdd`. It puts the parts over what is pending there, and gives the holds of exactly those
 //!   pieces of which no byte is left. After want of memory all is as before, and the holds that it

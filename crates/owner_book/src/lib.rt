@@ -18,8 +18,8 @@
 //!   `MayCommit`. It puts the push over the file: its fragments in order, with the holds of the
 //!   pieces that they name. It gives the version, what is told of the file, and the holds of
 //!   exactly those pieces of which no byte is left in the file.
-//! - `trunc` asks what `commit` does, and for a size that is at most that of the longest file, 2^40.
-//!   It puts the push over the file, and then cuts it to that size, or extends it to it by bytes
+//! - `trunc` asks what `commit` does, and for a size of at most that of the longest file, 2^40. It
+//!   puts the push over the file, and then cuts it to that size, or extends it to it by bytes
 //!   that nobody wrote. It gives the version, what is told of the file, and the holds of exactly
 //!   those pieces, of the file and of the push, of which no byte is left.
 //! - `unlink` asks that the path has its holds, `HasHolds`. It takes the file away, also a frozen

@@ -1,9 +1,9 @@
 -- What a caller cites of fragments with holds: whatever the proofs of the crates above need is here.
 
 -- which mark stands at each place after a put of one fragment and of all of a list
-pub use Rattle.piece_table.proofs.Places.{mark_at-Puts, mark_at-PutsAll, mark_at-put_fragments, mark_at-put_ordered}
+pub use Rattle.piece_table.proofs.Places.{mark_at-put_fragments, mark_at-put_ordered}
 -- that a piece is named where some fragment names it, and what a put names
-pub use Rattle.piece_table.proofs.Counts.{named_some, some_named, named_none, All-named, put_names}
+pub use Rattle.piece_table.proofs.Counts.{named_some, some_named, named_none, All-named}
 pub use Rattle.piece_table.proofs.Places.{named_put}
 -- how many fragments there are after a put of all of a list
 pub use Rattle.piece_table.proofs.Counts.{length-put_fragments}

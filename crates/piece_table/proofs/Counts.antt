@@ -163,13 +163,7 @@ none_named q fs zero = named_count q fs ∙ ap (ltb 0) zero
 pub All-named : (fs : List Fragment) → All (λ f. is_named fs f.piece ≡ true) fs
 All-named fs k d within = list_any_at (λ f. piece_eq f.piece (get_or fs k d).piece) fs k d within (piece_eq-itself (get_or fs k d).piece)
 
--- a put names the piece of its fragment, and of the others only such as were named
-pub put_names : (f : Fragment) (fs : List Fragment) → 0 < fragment_count f.piece (put_fragment f fs)
-put_names f fs =
-    let before = flat_map (rest_before f.at) fs in
-    let behind = flat_map (rest_from (end_of f)) fs in
-    omega (arith, count-append f.piece before (f ∷ behind), count-cons f.piece f behind, naming-itself f)
-
+-- a piece that a put names and that was named by none is that of its fragment
 pub named_by_put : (q : Piece) (f : Fragment) (fs : List Fragment) → IsSpan f → All IsSpan fs → 0 < fragment_count q (put_fragment f fs)
     → fragment_count q fs ≡ 0 → naming q f ≡ 1
 named_by_put q f fs span each some none =

@@ -1,7 +1,7 @@
 -- The marks of fragments that were put over others: which piece stands at each place.
 use Rattle.std.specs.Option.{option_or}
 use Rattle.std.specs.Prelude.{AllPairs}
-use Rattle.fs_types.proofs.Common.{◌≡◌, ℕ, ◌<◌, true, cond, leb, ltb, List, [], ◌∷◌, Option, Some, None, refl, sym, ap, ◌∙◌, arith}
+use Rattle.fs_types.proofs.Common.{◌≡◌, ℕ, ◌<◌, true, leb, ltb, List, [], ◌∷◌, Option, Some, None, refl, sym, ap, ◌∙◌, arith}
 use Rattle.fs_types.proofs.Common.{All-weaker, cases_Bool, inl, inr, cond-true, cond-false, and_parts, ltb-true, false≢true}
 use Rattle.span_list.proofs.CallerLemmas.{is_mark_of, mark_at-ahead, mark_at-put, mark-from_named, named-from_mark}
 use Rattle.span_list.proofs.CallerLemmas.{AllPairs-head, AllPairs-tail, IsAhead}
@@ -10,7 +10,7 @@ use Rattle.fs_types.specs.Fragments.{end_of}
 use Rattle.fs_types.specs.Marks.{Mark}
 use Rattle.fs_types.specs.Pieces.{Fragment, Piece}
 use Rattle.span_list.specs.Spans.{AreSpans, put_fragment}
-use Rattle.piece_table.specs.HeldSpans.{Held, Puts, PutsAll, is_named, put_fragments}
+use Rattle.piece_table.specs.HeldSpans.{is_named, put_fragments}
 use Rattle.piece_table.proofs.Counts.{named_some, some_named}
 
 -- a place has the mark of the fragments that were put, and where they have none the mark that it had
@@ -35,16 +35,6 @@ mark_at-put_ordered (f ∷ over) fs k ordered =
 pub mark_at-put_fragments : (over fs : List Fragment) (k : ℕ) → AreSpans over
     → mark_at (put_fragments over fs) k ≡ option_or (mark_at over k) (mark_at fs k)
 mark_at-put_fragments over fs k spans = mark_at-put_ordered over fs k spans.in_order
-
--- the same of what a put of one and of all gives
-pub mark_at-Puts : {H : Type 0} (f : Fragment) (h : H) (old new : Held H) (k : ℕ) → Puts f h old new
-    → mark_at new.fragments k ≡ cond (is_within f k) (Some (mark_within f k)) (mark_at old.fragments k)
-mark_at-Puts f h old new k puts = ap (λ us. mark_at us k) puts.fragments ∙ mark_at-put f old.fragments k
-
-pub mark_at-PutsAll : {H : Type 0} (over old new : Held H) (k : ℕ) → AreSpans over.fragments → PutsAll over old new
-    → mark_at new.fragments k ≡ option_or (mark_at over.fragments k) (mark_at old.fragments k)
-mark_at-PutsAll over old new k spans puts =
-    ap (λ us. mark_at us k) puts.fragments ∙ mark_at-put_fragments over.fragments old.fragments k spans
 
 -- what stands at a place where a mark of a piece is put over others
 marked_or : (q : Piece) (a b : Option Mark) → is_mark_of q a ≡ true → is_mark_of q (option_or a b) ≡ true

@@ -8,9 +8,9 @@
 //!
 //! Fragments with their holds are `HeldSpans`, and the table alone is `PieceTable`.
 //!
-//! **Fragments with holds.** Calls that put, cut, clear or take ask for `AreHeld`, and keep it: each
-//! piece that is named has a ready hold of its own, in which its fragments lie, and no other piece
-//! has one. A new one has it. After `Err` all is as before, and what was given comes back.
+//! **Fragments with holds.** Calls that put, cut, clear or take ask for `AreHeld`, and keep it:
+//! each piece that is named has a ready hold of its own, in which its fragments lie, and no other
+//! piece has one. So it is in a new one. After `Err` all is as before, and what was given comes back.
 //!
 //! - `put` puts one fragment over the others, by a hold of its piece. The fragment has a byte, ends
 //!   within the longest file, and in its piece at a place below 2^32 (`IsSpan`); the hold is ready,
@@ -55,8 +55,8 @@
 //! - `less` counts a piece that is there once less. Where that was the last one, it gives the hold.
 //! - `get` and `hold` lend the hold of a piece, to read and to change, or give none where it isn't
 //!   there. `len` is the number of pieces.
-//! - `take_all` moves all holds out, each of which is of the piece that it stands for, into a vector
-//!   with room for them.
+//! - `take_all` moves all holds out, each of which is of the piece that it stands for, into a
+//!   vector with room for them.
 //! - After `reserve` so many pieces are entered without taking memory. Where there is none, `enter`
 //!   gives the hold back, and all is as before.
 //!

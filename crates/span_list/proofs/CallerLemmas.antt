@@ -8,8 +8,7 @@ pub use Rattle.span_list.proofs.MarkLists.{marks_within, get_or-marks, marks_of_
 pub use Rattle.span_list.proofs.NextFragments.{IsNext, IsNext-found, IsSpan-found, mark_at-before_next, mark_at-in_next}
 pub use Rattle.span_list.proofs.NextFragments.{ended-none, mark_at-after_last}
 -- how many fragments name a piece, and that one does exactly where some place has a mark of it
-pub use Rattle.span_list.proofs.Counts.{fragment_count-put, is_mark_of, named-from_mark, mark-from_named}
-pub use Rattle.span_list.proofs.Counts.{no_mark-of_unnamed, unnamed-without_mark}
+pub use Rattle.span_list.proofs.Counts.{is_mark_of, named-from_mark, mark-from_named}
 -- a put and a cut keep fragments in order, and where they end
 pub use Rattle.span_list.proofs.Parts.{AreSpans-put, AreSpans-cut, AreSpans-from, put_ends, cut_ends}
 -- what a place leaves of fragments that all end by it, or all begin from it on

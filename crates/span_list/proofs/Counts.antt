@@ -1,15 +1,14 @@
 -- How many fragments name a piece, after a put, and where its marks stand.
-use Rattle.fs_types.proofs.Common.{◌≡◌, ℕ, ◌+◌, ◌<◌, List, [], ◌∷◌, All, arith, Bool, true, false, ◌==◌, ◌&&◌, cond}
-use Rattle.fs_types.proofs.Common.{Option, Some, None, nat_tests, flat_map, ◌∙◌, ap, sum_by-cons, false≢true, cond_both, cond-true}
+use Rattle.fs_types.proofs.Common.{◌≡◌, ℕ, ◌<◌, List, [], ◌∷◌, All, arith, Bool, true, false, ◌==◌, ◌&&◌, cond}
+use Rattle.fs_types.proofs.Common.{Option, Some, None, nat_tests, ◌∙◌, ap, sum_by-cons, false≢true, cond_both, cond-true}
 use Rattle.fs_types.proofs.Common.{cond-false, sym}
-use Rattle.fs_types.proofs.Common.{All-head, All-tail, cases_Bool, cases_lt, false_from_ne_true, inl, inr, ltb-true, and_parts}
+use Rattle.fs_types.proofs.Common.{All-head, All-tail, cases_Bool, inl, inr, ltb-true, and_parts}
 use Rattle.std.specs.Prelude.{AllPairs}
-use Rattle.std.proofs.lemmas.List.Sums.{sum_by-append}
 use Rattle.fs_types.specs.Fragments.{end_of, piece_eq, fragment_count}
 use Rattle.fs_types.specs.FragmentMarks.{is_within, mark_at, mark_within}
 use Rattle.fs_types.specs.Marks.{Mark}
 use Rattle.fs_types.specs.Pieces.{Fragment, Piece}
-use Rattle.span_list.specs.Spans.{IsSpan, AreSpans, rest_before, rest_from, put_fragment}
+use Rattle.span_list.specs.Spans.{IsSpan, AreSpans}
 use Rattle.span_list.proofs.PlainLists.{AllPairs-tail}
 use Rattle.span_list.proofs.Parts.{IsAhead}
 use Rattle.span_list.proofs.Marks.{mark_at-behind}
@@ -18,18 +17,6 @@ use Rattle.span_list.proofs.Marks.{mark_at-behind}
 abbrev pub is_mark_of : Piece → Option Mark → Bool
 is_mark_of p None = false
 is_mark_of p (Some m) = m.line == p.line && m.part == p.part
-
--- after a put a piece is named by what is left on each side, and by the fragment
-pub fragment_count-put : (p : Piece) (f : Fragment) (fs : List Fragment) → fragment_count p (put_fragment f fs)
-    ≡ fragment_count p (flat_map (rest_before f.at) fs) + cond (piece_eq f.piece p) 1 0
-    + fragment_count p (flat_map (rest_from (end_of f)) fs)
-fragment_count-put p f fs =
-    let one : Fragment → ℕ = λ g. cond (piece_eq g.piece p) 1 0 in
-    omega (
-      arith,
-      sum_by-append one (flat_map (rest_before f.at) fs) (f ∷ flat_map (rest_from (end_of f)) fs),
-      sum_by-cons one f (flat_map (rest_from (end_of f)) fs),
-    )
 
 -- a piece of which some place has a mark is named
 pub named-from_mark : (p : Piece) (fs : List Fragment) (k : ℕ) → is_mark_of p (mark_at fs k) ≡ true → 0 < fragment_count p fs
@@ -69,18 +56,3 @@ mark-of_named p (f ∷ fs) spans ordered named =
 pub mark-from_named : (p : Piece) (fs : List Fragment) → AreSpans fs → 0 < fragment_count p fs
     → (k : ℕ) × (is_mark_of p (mark_at fs k) ≡ true)
 mark-from_named p fs spans named = mark-of_named p fs spans.each spans.in_order named
-
--- a piece is named by no fragment exactly where no place has a mark of it
-pub no_mark-of_unnamed : (p : Piece) (fs : List Fragment) → fragment_count p fs ≡ 0 → (k : ℕ) → is_mark_of p (mark_at fs k) ≡ false
-no_mark-of_unnamed p fs unnamed k =
-    false_from_ne_true (is_mark_of p (mark_at fs k)) (λ marked. let named = named-from_mark p fs k marked in omega (arith, named))
-
-pub unnamed-without_mark : (p : Piece) (fs : List Fragment) → AreSpans fs → ((k : ℕ) → is_mark_of p (mark_at fs k) ≡ false)
-    → fragment_count p fs ≡ 0
-unnamed-without_mark p fs spans none =
-    elim (cases_lt 0 (fragment_count p fs)) [
-      | inl named ↦
-          let there = mark-from_named p fs spans named in
-          absurd (false≢true (sym (none there.0) ∙ there.1))
-      | inr unnamed ↦ omega arith
-    ]
