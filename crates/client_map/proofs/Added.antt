@@ -5,13 +5,13 @@ use Rattle.fs_types.proofs.Common.{Some, None, slice_get, slice_get_cases, sym, 
 use Rattle.fs_types.proofs.Common.{cond-true, cond-false, cond_both, cases_Bool, eqb-true, eqb-false, get_or-map, length-map, Bool, false, refl}
 use Rattle.std.proofs.lemmas.List.{ext_get_or}
 use Rattle.fs_types.specs.FragmentMarks.{mark_at}
-use Rattle.fs_types.specs.Fragments.{HeldPiece, end_of, held_pieces}
+use Rattle.fs_types.specs.Fragments.{HeldPiece, held_pieces}
 use Rattle.fs_types.specs.Marks.{mark_of}
 use Rattle.fs_types.specs.Pieces.{Fragment, Piece}
 use Rattle.fs_types.specs.declared.limits.TheConstants.{LONGEST_FILE}
 use Rattle.piece_table.specs.HeldSpans.{Held, PutsAll, is_named, pushed, put_fragments}
 use Rattle.client_map.specs.Writes.{MayAdd, Write, part_count, part_of, parts_of, pieces_of, write_of}
-use Rattle.client_map.proofs.WriteMarks.{ends-put, marks-put}
+use Rattle.client_map.proofs.WriteMarks.{marks-put}
 use Rattle.client_map.proofs.WriteParts.{length-holds, length-parts, part-at, parts-unnamed, piece-at, write_of-parts}
 
 -- the holds are of the parts of a write, one each and in order

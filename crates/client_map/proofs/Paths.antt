@@ -1,6 +1,6 @@
 -- Paths under their texts: what is pending on each once something else is kept of one.
 use Rattle.fs_types.proofs.Common.{◌≡◌, ℕ, Bool, true, false, if◌then◌else◌, List, Option, Some, None, is_some, refl, Vec, Global}
-use Rattle.fs_types.proofs.Common.{◌∙◌, ◌≢◌, sym, ap, subst, true≢false, false_from_ne_true, bytes_eq, bytes_eq-Decides}
+use Rattle.fs_types.proofs.Common.{◌∙◌, sym, ap, subst, true≢false, bytes_eq, bytes_eq-Decides}
 use Rattle.std.specs.Prelude.{OnSome}
 use Rattle.std.specs.Map.{IsKeyTest, AreApart, KeepsOthers}
 use Rattle.indexmap.specs.IndexMap.{IndexMap, get_by, UpdatesBy}
