@@ -5,3 +5,4 @@ pub mod Ends
 pub mod Standing
 pub mod Added
 pub mod CallerLemmas
+mod Cases
