@@ -10,13 +10,13 @@ use Rattle.fs_types.specs.declared.attr.Attr.{Attr}
 use Rattle.fs_types.specs.declared.want.Want.{Want}
 use Rattle.slot_plain.specs.Log.{Log}
 use Rattle.fs_script.specs.Operations.{opens_path}
-use Rattle.fs_script.specs.Vocabulary.{Job, Piece, after_answer, effect_of, marks_in, opens, version_of}
+use Rattle.fs_script.specs.Vocabulary.{Job, Piece, after_answer, effect_of, marks_in, opens}
 use Rattle.fs_script.specs.declared.line.Op.{Op}
 use Rattle.piece_table.specs.HeldSpans.{is_named}
 use Rattle.client_files.specs.Kept.{KeptFiles, is_open_in, noted_in}
 use Rattle.client_files.specs.Noted.{later_of}
 use Rattle.client_files.specs.declared.noted.Noted.{Noted}
-use Rattle.owner_book.specs.Calls.{attr, attr_in, version}
+use Rattle.owner_book.specs.Calls.{attr, version}
 use Rattle.owner_book.specs.Kept.{BookFile, BookPath, held_in}
 use Rattle.owner_book.proofs.CallerLemmas.{holds-none}
 use Rattle.owner_book.specs.declared.committed.Committed.{Committed}

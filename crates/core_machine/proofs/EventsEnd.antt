@@ -30,6 +30,7 @@ module _ (s : Job) (n : ℕ) (op : Op) (r : ℕ) (x : OwnedPath) (k : ClientPath
       is = refl;
       answer = ends.answer;
       doing = ends.doing;
+      attr = tt;
       kept = follows;
       settles = subst (λ b. LogsSettle s n r b (idle_kept x k logs) (idle_kept y l new)) (sym ends.filling) settles;
     }

@@ -1,22 +1,23 @@
 -- What is kept after an event: what its client notes of the path, and all else after one that commits nothing and one that commits.
-use Rattle.fs_types.proofs.Common.{◌≡◌, ℕ, ◌+◌, ◌==◌, ◌≤◌, ◌||◌, ◌&&◌, ◌++◌, ◌∷◌, [], Bool, true, false, if◌then◌else◌, nat_le, length}
+use Rattle.fs_types.proofs.Common.{◌≡◌, ℕ, ◌+◌, ◌==◌, ◌≤◌, ◌||◌, ◌&&◌, ◌++◌, ◌∷◌, [], true, false, if◌then◌else◌, nat_le, length}
 use Rattle.fs_types.proofs.Common.{Option, Some, None, is_some, refl, sym, ap, ◌∙◌, arith, cond_both, length_push, subst, false≢true}
+use Rattle.fs_types.proofs.Common.{length-map-range_with_len}
+use Rattle.fs_types.specs.FragmentMarks.{mark_at}
 use Rattle.fs_types.specs.declared.answer.Answer.{Answer}
 use Rattle.fs_types.specs.declared.answer.Answer.TheVariants as answers
 use Rattle.fs_types.specs.declared.attr.Attr.{Attr}
 use Rattle.fs_script.specs.Vocabulary.{Job, Piece, after_answer, at_least, effect_of, marks_in, opens, version_of}
 use Rattle.fs_script.specs.declared.line.Op.{Op}
-use Rattle.fs_script.specs.declared.line.Op.TheVariants as ops
 use Rattle.owner_book.specs.Calls.{attr, attr_in, version}
 use Rattle.owner_book.specs.Kept.{BookFile, BookPath}
 use Rattle.client_files.specs.Noted.{later_of}
 use Rattle.client_files.specs.declared.noted.Noted.{Noted}
 use Rattle.client_files.proofs.CallerLemmas.{version-later_of}
 use Rattle.core_machine.specs.ClientPath.{ClientPath, Pending}
-use Rattle.core_machine.specs.Event.{Event, Known, answered, committed_as, known_of}
+use Rattle.core_machine.specs.Event.{Event, answered, committed_as, known_of}
 use Rattle.core_machine.specs.Follows.{Ends, Follows, EndsQuietly, Knows, KnowsLookedUp, LookedUpWithin, kept_event}
 use Rattle.core_machine.specs.HoldsKept.{keeps}
-use Rattle.core_machine.specs.Kept.{AreSound, OwnedPath, file_hold, file_marks, known_from, noted_now, owned_of, pending_hold}
+use Rattle.core_machine.specs.Kept.{AreSound, OwnedPath, file_hold, file_marks, noted_now, owned_of, pending_hold}
 use Rattle.core_machine.specs.Kept.{pending_lines}
 use Rattle.core_machine.specs.PendingWrites.{ArePending}
 use Rattle.core_machine.specs.declared.plain_hold.PlainHold.{PlainHold}
@@ -30,19 +31,17 @@ pub record Notes (x : OwnedPath) (k : ClientPath) (t : Task) (a : Answer) (m : N
   pub version : m.version ≡ at_least k.noted.version (version_of a)
   pub within : k.noted.version ≤ length x.path.journal → x.told.version ≤ length x.path.journal
       → LookedUpWithin t (length x.path.journal) → m.version ≤ length x.path.journal
-  pub known : (at : ℕ → Known) → Knows at x k → KnowsLookedUp at t → known_from m ≡ at m.version
+  pub known : (at : ℕ → Attr) → Knows at x k → KnowsLookedUp at t → m.attr ≡ at m.version
 
 -- what holds of two notes holds of the later
 later-both : (P : Noted → Type 0) (m n : Noted) → P m → P n → P (later_of m n)
 later-both P m n first second = cond_both (nat_le n.version m.version) m n P (λ _. first) (λ _. second)
 
--- what is noted of a path now is what is known of its file
-pub known-now : (x : BookPath PlainHold) → known_from (noted_now x) ≡ known_of (file_marks x.file)
-known-now x = by x.file
-  where
-    by : (o : Option (BookFile PlainHold)) → known_from (record { version = version x; attr = attr_in o }) ≡ known_of (file_marks o)
-    by None = refl
-    by (Some f) = refl
+-- what is known of a file are its attributes: it has as many bytes as it has marks
+pub known-file : (o : Option (BookFile PlainHold)) → attr_in o ≡ known_of (file_marks o)
+known-file None = refl
+known-file (Some f) =
+    λ i. record { exists = true; size = sym (length-map-range_with_len (mark_at f.held.fragments) 0 f.size) i; frozen = f.frozen }
 
 module _ (x : OwnedPath) (k : ClientPath) (t : Task) (a : Answer) where
   -- an answer that prints no version
@@ -57,17 +56,17 @@ module _ (x : OwnedPath) (k : ClientPath) (t : Task) (a : Answer) where
   pub notes-later : (m : Noted) → version_of a ≡ Some m.version
       → (k.noted.version ≤ length x.path.journal → x.told.version ≤ length x.path.journal → LookedUpWithin t (length x.path.journal)
       → m.version ≤ length x.path.journal)
-      → ((at : ℕ → Known) → Knows at x k → KnowsLookedUp at t → known_from m ≡ at m.version) → Notes x k t a (later_of k.noted m)
+      → ((at : ℕ → Attr) → Knows at x k → KnowsLookedUp at t → m.attr ≡ at m.version) → Notes x k t a (later_of k.noted m)
   notes-later m shows within known = record {
     version = version-later_of k.noted m ∙ ap (at_least k.noted.version) (sym shows);
     within = λ seen told looked. later-both (λ n. n.version ≤ length x.path.journal) k.noted m seen (within seen told looked);
     known = λ at knows looked.
-        later-both (λ n. known_from n ≡ at n.version) k.noted m knows.noted (known at knows looked);
+        later-both (λ n. n.attr ≡ at n.version) k.noted m knows.noted (known at knows looked);
   }
 
   -- the version now
   pub notes-now : version_of a ≡ Some (version x.path) → Notes x k t a (later_of k.noted (noted_now x.path))
-  notes-now shows = notes-later (noted_now x.path) shows (λ seen told looked. omega arith) (λ at knows looked. known-now x.path ∙ knows.now)
+  notes-now shows = notes-later (noted_now x.path) shows (λ seen told looked. omega arith) (λ at knows looked. known-file x.path.file ∙ knows.now)
 
   -- as the owner told it
   pub notes-told : (told : ℕ × Attr) (m : Noted) → told ≡ (version x.path, attr x.path)
@@ -80,7 +79,7 @@ module _ (x : OwnedPath) (k : ClientPath) (t : Task) (a : Answer) where
   pub notes-front : version_of a ≡ Some (later_of k.noted x.told).version → Notes x k t a (later_of k.noted (later_of k.noted x.told))
   notes-front shows = notes-later (later_of k.noted x.told) shows
       (λ seen told looked. later-both (λ n. n.version ≤ length x.path.journal) k.noted x.told seen told)
-      (λ at knows looked. later-both (λ n. known_from n ≡ at n.version) k.noted x.told knows.noted knows.board)
+      (λ at knows looked. later-both (λ n. n.attr ≡ at n.version) k.noted x.told knows.noted knows.board)
 
 -- ---- events that commit nothing
 

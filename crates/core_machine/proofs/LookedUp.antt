@@ -1,6 +1,6 @@
 -- A look-up in a book whose holds are plain: its pins are the file's own holds, and it leaves each path as it was.
-use Rattle.fs_types.proofs.Common.{◌≡◌, ℕ, ◌+◌, Bool, true, false, not, List, [], ◌∷◌, map, filter, length-map, get_or, get_or-map, All}
-use Rattle.fs_types.proofs.Common.{Option, Some, None, IfSome, IsSome, is_some, refl, sym, ap, subst, ◌∙◌, arith, inl, inr, cases_Bool}
+use Rattle.fs_types.proofs.Common.{◌≡◌, ℕ, ◌+◌, Bool, true, false, not, List, [], ◌∷◌, map, filter, get_or, All}
+use Rattle.fs_types.proofs.Common.{Option, Some, None, IfSome, is_some, refl, sym, ap, ◌∙◌, inl, inr, cases_Bool}
 use Rattle.fs_types.proofs.Common.{true≢false}
 use Rattle.std.specs.Option.{option_map_or}
 use Rattle.fs_types.specs.Pieces.{Piece}
@@ -14,9 +14,8 @@ use Rattle.owner_book.specs.Lookups.{Asks, HoldsBecome, IsAsked, IsLike, IsLooke
 use Rattle.owner_book.specs.Lookups.{parts_in, pieces_named}
 use Rattle.owner_book.specs.declared.looked.Looked.{Looked}
 use Rattle.owner_book.proofs.CallerLemmas.{holds-none}
-use Rattle.owner_book.proofs.Named.{pieces-held}
 use Rattle.owner_book.proofs.Paths.{unchanged}
-use Rattle.fs_script.proofs.CallerLemmas.{some_of, none_from-is_some}
+use Rattle.fs_script.proofs.CallerLemmas.{none_from-is_some}
 use Rattle.core_machine.specs.declared.plain_hold.PlainHold.{PlainHold}
 use Rattle.core_machine.specs.BookFiles.{IsFile}
 use Rattle.core_machine.specs.PlainHolds.{AreHeldPlain}

@@ -1,7 +1,6 @@
 -- What an event leaves as it was of the other clients: all that they keep, and what they are in the midst of. So an event that
 -- empties another client's pending writes doesn't follow.
 use Rattle.fs_types.proofs.Common.{◌≡◌, ◌≢◌, ◌∙◌, ℕ, List, [], Option, Some, ap, sym, slice_get, same_Some}
-use Rattle.fs_types.specs.Pieces.{Fragment}
 use Rattle.fs_script.proofs.CallerLemmas.{slice_get-set_other}
 use Rattle.slot_plain.specs.Log.{Log}
 use Rattle.client_map.specs.Kept.{pending_in}

@@ -8,7 +8,7 @@ use Rattle.slot_plain.specs.Log.{Log}
 use Rattle.fs_script.specs.Vocabulary.{Answer, Job, Piece, Range, marks_in, range_of, runs, shown, view_of}
 use Rattle.fs_script.specs.declared.line.Op.TheVariants as ops
 use Rattle.fs_types.specs.declared.answer.Answer.TheVariants as answers
-use Rattle.owner_book.specs.Calls.{version}
+use Rattle.owner_book.specs.Calls.{attr, version}
 use Rattle.owner_book.specs.Kept.{BookFile}
 use Rattle.client_files.specs.Noted.{later_of}
 use Rattle.client_files.specs.declared.noted.Noted.{Noted}
@@ -22,9 +22,9 @@ use Rattle.core_machine.specs.Doing.{Reading, reading}
 use Rattle.core_machine.specs.Event.{Event, PathNow, answered, goes_on_reading}
 use Rattle.core_machine.specs.Events.Read.{lookup_over, shows}
 use Rattle.core_machine.specs.Fetching.{HasBytes}
-use Rattle.core_machine.specs.Follows.{EventFollows, EventKept, KeptStand, free_in, kept_event}
+use Rattle.core_machine.specs.Follows.{EventFollows, EventKept, HasAttr, KeptStand, attr_seen, free_in, kept_event}
 use Rattle.core_machine.specs.HoldsKept.{holds_kept, keeps}
-use Rattle.core_machine.specs.Kept.{file_hold, file_marks, kept_now, noted_now, pending_lines}
+use Rattle.core_machine.specs.Kept.{file_marks, kept_now, noted_now, pending_lines}
 use Rattle.core_machine.specs.Logs.{AreHeldSlots, HoldsStand, stored_part}
 use Rattle.core_machine.specs.Pins.{HaveSlots, no_count, pin_count}
 use Rattle.core_machine.specs.Reads.{BeginsRead, marks_seen}
@@ -35,12 +35,11 @@ use Rattle.core_machine.proofs.FetchedBytes.{HasBytes-whole}
 use Rattle.core_machine.proofs.SettledSlots.{Settles-agree, Settles-more, Settles-same}
 
 -- what is noted at the end of a read: the version that it looked up
-notes-shown : (s : Job) (x : OwnedPath) (k : ClientPath) (t : ReadTask) (bytes : List ℕ) → IsReadTask s t
+notes-shown : (x : OwnedPath) (k : ClientPath) (t : ReadTask) (bytes : List ℕ)
     → Notes x k (Read t) (shows t.version bytes) (later_of k.noted (record { version = t.version; attr = t.attr }))
-notes-shown s x k t bytes task =
+notes-shown x k t bytes =
     notes-later x k (Read t) (shows t.version bytes) (let m : Noted = record { version = t.version; attr = t.attr } in m) refl
-    (λ seen told looked. looked)
-    (λ at knows looked. (λ i. record { exists = task.there i; frozen = task.unfrozen i }) ∙ looked)
+    (λ seen told looked. looked) (λ at knows looked. looked)
 
 -- ---- an event of a read, by what the machine's event is
 
@@ -60,6 +59,7 @@ module _ (s : Job) (n r off len : ℕ) (own : Bool) (x : OwnedPath) (k : ClientP
         is = refl;
         answer = ap (λ (e : Event). e.answer) is;
         doing = ap (λ (e : Event). e.doing) is;
+        attr = tt;
         kept = follows-noted s n (ops.Read off len own) t event x k (record k { noted = m }) a (ap (λ (e : Event). e.commits) is) notes
             refl refl (λ q there. there);
         settles = record {
@@ -70,14 +70,15 @@ module _ (s : Job) (n r off len : ℕ) (own : Bool) (x : OwnedPath) (k : ClientP
 
   -- the line goes on
   pub goes_on : (d : Reading) (t' : Task) → kept_event s x k (free_in old r) t (ops.Read off len own) ≡ goes_on_reading d
-      → reading d ≡ doing_of t' → Settles (holds_kept x k t) (holds_kept x k t') old new → KeptStand s old x k t'
+      → reading d ≡ doing_of t' → HasAttr (attr_seen x t) t' → Settles (holds_kept x k t) (holds_kept x k t') old new → KeptStand s old x k t'
       → EventFollows s n (ops.Read off len own) r (kept x k t old) (kept x k t' new) None
-  goes_on d t' is doing settles stand =
+  goes_on d t' is doing has settles stand =
       record {
         event = kept_event s x k (free_in old r) t (ops.Read off len own);
         is = refl;
         answer = ap (λ (e : Event). e.answer) is;
         doing = ap (λ (e : Event). e.doing) is ∙ doing;
+        attr = has;
         kept = record {
           commits = ap (λ (e : Event). e.commits) is;
           fills = ap (λ (e : Event). e.fills) is;
@@ -133,26 +134,26 @@ module _ (s : Job) (n r off len : ℕ) (own : Bool) (x : OwnedPath) (k : ClientP
   -- a read begins, by holds each of which is of a slot that has its piece
   pub EventFollows-begun : (f : BookFile PlainHold) (hold_at : Piece → Option PlainHold) (t : ReadTask) → k.is_open ≡ true
       → x.path.file ≡ Some f → KeptStand s old x k Idle → HoldsStand s old hold_at
-      → BeginsRead s (shown (marks_seen s own (pending_lines k) f) off len) (length x.path.journal) hold_at t old new
+      → BeginsRead s (shown (marks_seen s own (pending_lines k) f) off len) (length x.path.journal) (attr x.path) hold_at t old new
       → EventFollows s n (ops.Read off len own) r (kept x k Idle old) (kept x k (Read t) new) None
   EventFollows-begun f hold_at t is_open there stand holds begins =
       goes_on s n r off len own x k Idle old new _ (Read t)
       (cond-true k.is_open _ _ is_open
       ∙ ap (λ (g : Option (BookFile PlainHold)). lookup_over seen_now (view_of s (marks_in s) own (pending_lines k) (file_marks g)) asks) there
       ∙ looked-up f own)
-      (ap reading (sym begins.reading))
+      (ap reading (sym begins.reading)) begins.attr
       (Settles-more (λ q. if keeps x k q then 1 else 0) no_count (pin_count t.pins) old new begins.slots)
       (record { files = stand.files; pending = stand.pending; pins = λ q h is. holds q h (begins.holds q h is) })
 
   module _ (t : ReadTask) (task : IsReadTask s t) (stand : KeptStand s old x k (Read t)) where
     -- one run more is fetched
     pub EventFollows-fetched : (t' : ReadTask) → t.fetched < length t.runs.items
-        → reading_of t' ≡ record (reading_of t) { fetched = t.fetched + 1 } → t'.pins ≡ t.pins → AreHeldSlots old
+        → reading_of t' ≡ record (reading_of t) { fetched = t.fetched + 1 } → t'.attr ≡ t.attr → t'.pins ≡ t.pins → AreHeldSlots old
         → EventFollows s n (ops.Read off len own) r (kept x k (Read t) old) (kept x k (Read t') old) None
-    EventFollows-fetched t' left is pins held =
+    EventFollows-fetched t' left is has pins held =
         goes_on s n r off len own x k (Read t) old old _ (Read t')
         (cond-true (nat_lt t.fetched (length (runs (marks_of_task t)))) _ _ (rw task.runs_are (lt-ltb t.fetched (length t.runs.items) left)))
-        (ap reading (sym is))
+        (ap reading (sym is)) has
         (Settles-agree (holds_kept x k (Read t)) (holds_kept x k (Read t)) (holds_kept x k (Read t)) (holds_kept x k (Read t')) old old
         (λ q. refl) (λ q. ap (λ (p : Pieces PlainHold). (if keeps x k q then 1 else 0) + pin_count p q) pins)
         (Settles-same (holds_kept x k (Read t)) old held))
@@ -173,7 +174,7 @@ module _ (s : Job) (n r off len : ℕ) (own : Bool) (x : OwnedPath) (k : ClientP
         ∙ ap (λ (bytes : List ℕ). answered (shows t.version bytes))
         (sym (HasBytes-whole s t.runs.items t.bytes.items (subst (λ (fs : List Fragment). HasBytes s fs t.bytes.items)
         (take_all t.fetched t.runs.items all) task.bytes))))
-        (notes-shown s x k t t.bytes.items task)
+        (notes-shown x k t t.bytes.items)
         (Settles-more (λ q. if keeps x k q then 1 else 0) (pin_count t.pins) no_count old new settles) stand
 
 -- the slots that holds which stand are of
@@ -181,9 +182,3 @@ pub HaveSlots-stand : (s : Job) (logs : List Log) (hold_at : Piece → Option Pl
 HaveSlots-stand s logs hold_at stand q h is =
     let one = stand q h is in
     record { held = one.1.count; stored = stored_part s h.piece; piece = one.1.piece; id = one.0 }
-
--- the same by a path's file
-pub HaveSlots-file : (s : Job) (logs : List Log) (file : Option (BookFile PlainHold)) (f : BookFile PlainHold) → file ≡ Some f
-    → HoldsStand s logs (file_hold file) → HaveSlots logs f.held.hold_of
-HaveSlots-file s logs file f is stand =
-    HaveSlots-stand s logs f.held.hold_of (subst (λ (o : Option (BookFile PlainHold)). HoldsStand s logs (file_hold o)) is stand)

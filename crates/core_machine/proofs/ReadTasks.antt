@@ -1,7 +1,7 @@
 -- A read under way: as it begins, and once one run more was fetched.
 use Rattle.std.specs.Prelude.{AllPairs}
-use Rattle.fs_types.proofs.Common.{◌≡◌, ℕ, ◌+◌, ◌<◌, ◌≤◌, ◌∙◌, List, Option, Some, arith, sym, ap, subst, length, take, get_or, All}
-use Rattle.fs_types.proofs.Common.{true, false, if◌then◌else◌, replicate, slice_index, length-replicate, Vec, Global, length-map-range_with_len}
+use Rattle.fs_types.proofs.Common.{◌≡◌, ℕ, ◌+◌, ◌<◌, ◌≤◌, ◌∙◌, List, Option, Some, arith, refl, sym, ap, subst, length, take, get_or, All}
+use Rattle.fs_types.proofs.Common.{if◌then◌else◌, replicate, slice_index, length-replicate, Vec, Global, length-map-range_with_len}
 use Rattle.fs_types.specs.Fragments.{end_of}
 use Rattle.fs_types.specs.FragmentMarks.{is_within, mark_at, mark_within, marks_of_fragments}
 use Rattle.fs_types.specs.Marks.{Mark}
@@ -22,10 +22,10 @@ use Rattle.core_machine.proofs.PinnedRuns.{pinned-hold}
 
 -- a read that pinned the runs of what is seen of a range, and has zeros in place of all bytes, begins
 pub BeginsRead-pinned : (s : Job) (marks : List (Option Mark)) (off len : ℕ) (hold_at : Piece → Option PlainHold) (seen : Looked PlainHold)
-    (t : ReadTask) (was now : List Log) → IsSeenIn marks off len hold_at seen → t.version ≡ seen.v → t.attr.exists ≡ true
-    → t.attr.frozen ≡ false → t.fetched ≡ 0 → t.runs.items ≡ runs marks → t.bytes.items ≡ replicate (length marks) 0 → ArePins no_count hold_at t.runs.items t.pins was now
-    → BeginsRead s marks seen.v hold_at t was now
-BeginsRead-pinned s marks off len hold_at seen t was now is version_is there unfrozen none runs_is bytes_are pinned =
+    (t : ReadTask) (was now : List Log) → IsSeenIn marks off len hold_at seen → t.version ≡ seen.v
+    → t.fetched ≡ 0 → t.runs.items ≡ runs marks → t.bytes.items ≡ replicate (length marks) 0 → ArePins no_count hold_at t.runs.items t.pins was now
+    → BeginsRead s marks seen.v t.attr hold_at t was now
+BeginsRead-pinned s marks off len hold_at seen t was now is version_is none runs_is bytes_are pinned =
     let size : length t.bytes.items ≡ length marks = ap length bytes_are ∙ length-replicate (length marks) 0 in
     let same : marks_of_task t ≡ marks =
     ap (marks_of_fragments t.runs.items) size ∙ ap (λ (fs : List Fragment). marks_of_fragments fs (length marks)) runs_is
@@ -36,9 +36,8 @@ BeginsRead-pinned s marks off len hold_at seen t was now is version_is there unf
     rw (none, bytes_are) (HasBytes-none s t.runs.items (length marks)) in
     record {
       reading = λ i. record { version = version_is i; marks = same i; fetched = none i };
+      attr = refl;
       task = record {
-        there = there;
-        unfrozen = unfrozen;
         runs_are = ap runs same ∙ sym runs_is;
         pinned = PinsRuns-pinned hold_at no_count t.runs.items t.pins was now (length marks) is.theirs fetchable pinned;
         fetched = omega (arith, none);
@@ -67,8 +66,6 @@ module _ (s : Job) (t : ReadTask) (task : IsReadTask s t) where
       → slice_index b.items k ≡ (if is_within f k then marked_byte s (Some (mark_within f k)) else slice_index t.bytes.items k))
       → IsReadTask s (record t { fetched = t.fetched + 1; bytes = b })
   IsReadTask-fetched f b lt is same put = record {
-    there = task.there;
-    unfrozen = task.unfrozen;
     runs_are = rw same task.runs_are;
     pinned = task.pinned;
     fetched = omega (arith, lt);

@@ -1,5 +1,5 @@
 -- A file in its owner's book: what of it the core goes on keeping so, and the marks that it has.
-use Rattle.std.specs.Prelude.{◌≡◌, ℕ, ◌≤◌, false, List, Option, All}
+use Rattle.std.specs.Prelude.{◌≡◌, ◌≤◌, false, List, Option, All}
 use Rattle.fs_types.specs.FragmentMarks.{marks_of_fragments}
 use Rattle.fs_types.specs.Fragments.{end_of}
 use Rattle.fs_script.specs.Vocabulary.{LONGEST_FILE, Mark}

@@ -1,5 +1,6 @@
 -- Events of a simulated run: what happens at once, and what it sees of its path.
-use Rattle.std.specs.Prelude.{ℕ, Bool, true, false, List, Option, Some, None, if◌then◌else◌}
+use Rattle.std.specs.Prelude.{ℕ, Bool, true, false, List, length, Option, Some, None, if◌then◌else◌}
+use Rattle.fs_types.specs.declared.attr.Attr.{Attr}
 use Rattle.fs_script.specs.Vocabulary.{Answer, File, Mark}
 use Rattle.core_machine.specs.Doing.{Doing, Reading, nothing, reading}
 use Rattle.fs_types.specs.declared.answer.Answer.TheVariants as answers
@@ -28,14 +29,10 @@ wrote_into slots = record { answer = Some (answers.Wrote slots); commits = false
 abbrev pub goes_on_reading : Reading → Event
 goes_on_reading d = record { answer = None; commits = false; fills = false; doing = reading d }
 
--- what a client knows of a file: whether it is there, and whether it is frozen
-pub record Known : Type 0 where
-  pub exists : Bool
-  pub frozen : Bool
-
-abbrev pub known_of : {X : Type 0} → File X → Known
-known_of None = record { exists = false; frozen = false }
-known_of (Some f) = record { exists = true; frozen = f.frozen }
+-- what a client knows of a file: its attributes
+abbrev pub known_of : {X : Type 0} → File X → Attr
+known_of None = record { exists = false; size = 0; frozen = false }
+known_of (Some f) = record { exists = true; size = length f.cells; frozen = f.frozen }
 
 -- what an event sees of its path: the file now, by its bytes and by their marks, and how many lines were committed; what is
 -- pending for its client and whether the client has opened the path; the client's front with what it knows of the file
@@ -47,7 +44,7 @@ pub record PathNow : Type 0 where
   pub pending : List ℕ
   pub is_open : Bool
   pub front : ℕ
-  pub at_front : Known
+  pub at_front : Attr
   pub free : ℕ
 
 -- an operation that needs an open path

@@ -6,6 +6,8 @@ use Rattle.slot_plain.specs.Log.{Log}
 use Rattle.slot_plain.specs.Slots.{StoredPiece}
 use Rattle.fs_script.specs.Vocabulary.{Answer, Job, Piece, marks_in, version_of, after_answer, effect_of, at_least, opens, asked}
 use Rattle.fs_script.specs.declared.line.Op.{Op}
+use Rattle.fs_types.specs.declared.attr.Attr.{Attr}
+use Rattle.owner_book.specs.Calls.{attr}
 use Rattle.owner_book.specs.Kept.{Book}
 use Rattle.client_files.specs.Kept.{KeptBoard, told_in}
 use Rattle.core_machine.specs.declared.plain_hold.PlainHold.{PlainHold}
@@ -15,10 +17,10 @@ use Rattle.core_machine.specs.declared.task.Task.{Task}
 use Rattle.core_machine.specs.declared.task.Task.TheVariants.{Idle, Read}
 use Rattle.core_machine.specs.Books.{ChangesPath, path_at}
 use Rattle.core_machine.specs.Doing.{nothing}
-use Rattle.core_machine.specs.Event.{Event, Known, known_of}
+use Rattle.core_machine.specs.Event.{Event, known_of}
 use Rattle.core_machine.specs.Slots.{empty_slots}
 use Rattle.core_machine.specs.Step.{event_of}
-use Rattle.core_machine.specs.Kept.{AreSound, OwnedPath, file_marks, file_hold, kept_now, known_from, owned_of, pending_hold, pending_lines}
+use Rattle.core_machine.specs.Kept.{AreSound, OwnedPath, file_marks, file_hold, kept_now, owned_of, pending_hold, pending_lines}
 use Rattle.core_machine.specs.Logs.{AreFreeSlots, AreHeldSlots, AreInOneSlot, AreInMemory, HoldsStand, pieces_of, slot_in}
 use Rattle.core_machine.specs.HoldsKept.{holds_kept, keeps}
 use Rattle.core_machine.specs.Settling.{LogsFollow}
@@ -33,15 +35,25 @@ abbrev pub LookedUpWithin : Task → ℕ → Type 0
 LookedUpWithin Idle versions = Unit {0}
 LookedUpWithin (Read t) versions = t.version ≤ versions
 
--- and a file is there at it, as `at` says of the versions
-abbrev pub KnowsLookedUp : (ℕ → Known) → Task → Type 0
+-- and the attributes are those of the file at it, as `at` says of the versions
+abbrev pub KnowsLookedUp : (ℕ → Attr) → Task → Type 0
 KnowsLookedUp at Idle = Unit {0}
-KnowsLookedUp at (Read t) = record { exists = true; frozen = false } ≡ at t.version
+KnowsLookedUp at (Read t) = t.attr ≡ at t.version
+
+-- the attributes that a read under way looked up, or those that one which begins finds
+abbrev pub attr_seen : OwnedPath → Task → Attr
+attr_seen x Idle = attr x.path
+attr_seen x (Read t) = t.attr
+
+-- a read under way has these attributes
+abbrev pub HasAttr : Attr → Task → Type 0
+HasAttr a Idle = Unit {0}
+HasAttr a (Read t) = t.attr ≡ a
 
 -- what was noted of each version, and the file now, are as `at` says of the versions
-pub record Knows (at : ℕ → Known) (x : OwnedPath) (k : ClientPath) : Type 0 where
-  pub noted : known_from k.noted ≡ at k.noted.version
-  pub board : known_from x.told ≡ at x.told.version
+pub record Knows (at : ℕ → Attr) (x : OwnedPath) (k : ClientPath) : Type 0 where
+  pub noted : k.noted.attr ≡ at k.noted.version
+  pub board : x.told.attr ≡ at x.told.version
   pub now : known_of (file_marks x.path.file) ≡ at (length x.path.journal)
 
 -- an event brings its line to its end with this answer, and puts the line's pieces into slots or doesn't
@@ -69,7 +81,7 @@ pub record Follows (s : Job) (n : ℕ) (op : Op) (t : Task) (e : Event) (x : Own
   pub within : k.noted.version ≤ length x.path.journal → x.told.version ≤ length x.path.journal
       → LookedUpWithin t (length x.path.journal) → l.noted.version ≤ length y.path.journal
   -- whatever the versions' files are, what was noted goes on saying it
-  pub known : (at : ℕ → Known) → Knows at y k → KnowsLookedUp at t → known_from l.noted ≡ at l.noted.version
+  pub known : (at : ℕ → Attr) → Knows at y k → KnowsLookedUp at t → l.noted.attr ≡ at l.noted.version
   -- a piece is kept only where one was, or where the line itself wrote it
   pub owned : (q : Piece) → is_some (file_hold y.path.file q) ≡ true → keeps x k q ≡ true
   pub pieces : (q : Piece) → is_some (pending_hold l q) ≡ true → (is_some (pending_hold k q) || e.fills && q.line == n) ≡ true
@@ -134,6 +146,7 @@ pub record EventFollows (s : Job) (n : ℕ) (op : Op) (r : ℕ) (old new : Event
   pub is : event ≡ kept_event s old.owned old.client (free_in old.logs r) old.task op
   pub answer : event.answer ≡ a
   pub doing : event.doing ≡ doing_of new.task
+  pub attr : HasAttr (attr_seen old.owned old.task) new.task
   pub kept : FollowsBy s n op old.task event old.owned old.client new.owned new.client a
   pub settles : LogsSettle s n r event.fills old new
 

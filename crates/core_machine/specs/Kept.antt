@@ -1,6 +1,5 @@
 -- What the core keeps for a path and for a client on it, as the words of the machine.
-use Rattle.std.specs.Prelude.{◌≡◌, ℕ, true, false, nat_le, is_some, List, [], length, All, Option, Some, None, Vec, IfSome, if◌then◌else◌}
-use Rattle.piece_table.specs.HeldSpans.{held}
+use Rattle.std.specs.Prelude.{◌≡◌, ℕ, true, false, is_some, List, length, All, Option, None, IfSome}
 use Rattle.fs_script.specs.Vocabulary.{File, Job, Mark, Piece, marked_bytes}
 use Rattle.owner_book.specs.Calls.{attr, version}
 use Rattle.owner_book.specs.Journals.{marked}
@@ -13,7 +12,7 @@ use Rattle.client_files.specs.declared.noted.Noted.{Noted}
 use Rattle.core_machine.specs.declared.plain_hold.PlainHold.{PlainHold}
 use Rattle.core_machine.specs.BookFiles.{IsFile}
 use Rattle.core_machine.specs.PendingWrites.{ArePending, IsNonePending}
-use Rattle.core_machine.specs.Event.{Known, PathNow}
+use Rattle.core_machine.specs.Event.{PathNow}
 
 -- what the owner's book has of a path, and what all clients were told of it
 pub record OwnedPath : Type 0 where
@@ -38,10 +37,6 @@ file_of s f = marked_bytes s (file_marks f)
 abbrev pub file_hold : Option (BookFile PlainHold) → Piece → Option PlainHold
 file_hold file q = (held_in file).hold_of q
 
--- what is known of the file at a noted version
-abbrev pub known_from : Noted → Known
-known_from n = record { exists = n.attr.exists; frozen = n.attr.frozen }
-
 -- the lines of a client's pending writes, and the hold of a piece of them
 abbrev pub pending_lines : ClientPath → List ℕ
 pending_lines k = k.pending.lines
@@ -58,7 +53,7 @@ kept_now s x k free = record {
   pending = pending_lines k;
   is_open = k.is_open;
   front = (later_of k.noted x.told).version;
-  at_front = known_from (later_of k.noted x.told);
+  at_front = (later_of k.noted x.told).attr;
   free = free;
 }
 

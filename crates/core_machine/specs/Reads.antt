@@ -2,11 +2,12 @@
 use Rattle.std.specs.Prelude.{◌≡◌, ℕ, ◌+◌, ◌-◌, ◌<◌, min, Bool, false, List, All, AllPairs, Option, Some, None, find, length, map}
 use Rattle.std.specs.Prelude.{slice_index_or}
 use Rattle.fs_types.specs.FragmentMarks.{mark_at}
+use Rattle.fs_types.specs.declared.attr.Attr.{Attr}
 use Rattle.fs_types.specs.Fragments.{piece_eq}
 use Rattle.piece_table.specs.PieceTable.{AreTheirs, hold_of}
 use Rattle.slot_plain.specs.Log.{Log}
 use Rattle.span_list.specs.Spans.{AreSpans}
-use Rattle.fs_script.specs.Vocabulary.{Job, Mark, Piece, cells_of, marks_in, piece_of, shown, view_of}
+use Rattle.fs_script.specs.Vocabulary.{Job, Mark, Piece, cells_of, marks_in, piece_of, view_of}
 use Rattle.owner_book.specs.Kept.{BookFile}
 use Rattle.owner_book.specs.Lookups.{parts_in, pieces_named}
 use Rattle.owner_book.specs.declared.looked.Looked.{Looked}
@@ -52,11 +53,12 @@ pub record IsSeenIn (marks : List (Option Mark)) (off len : ℕ) (hold_at : Piec
   pub theirs : AreTheirs (λ h. h.piece) hold_at
   pub held : (k : ℕ) (m : Mark) → slice_index_or marks k None ≡ Some m → HasHold hold_at m
 
--- a read of these marks looked up this version and fetched nothing yet; it pins the pieces that they name by these holds, and the
--- slots of these are held once more than before
-pub record BeginsRead (s : Job) (marks : List (Option Mark)) (version : ℕ) (hold_at : Piece → Option PlainHold) (t : ReadTask)
+-- a read of these marks looked up this version, with these attributes, and fetched nothing yet; it pins the pieces that they name by
+-- these holds, and the slots of these are held once more than before
+pub record BeginsRead (s : Job) (marks : List (Option Mark)) (version : ℕ) (known : Attr) (hold_at : Piece → Option PlainHold) (t : ReadTask)
     (was now : List Log) : Type 0 where
   pub reading : reading_of t ≡ record { version = version; marks = marks; fetched = 0 }
+  pub attr : t.attr ≡ known
   pub task : IsReadTask s t
   pub holds : (q : Piece) (h : PlainHold) → hold_of t.pins q ≡ Some h → hold_at q ≡ Some h
   pub slots : Settles no_count (pin_count t.pins) was now

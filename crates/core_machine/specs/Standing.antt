@@ -12,7 +12,7 @@ use Rattle.core_machine.specs.declared.task.Task.{Task}
 use Rattle.core_machine.specs.Event.{known_of}
 use Rattle.core_machine.specs.BookFiles.{IsFile}
 use Rattle.core_machine.specs.Follows.{KnowsLookedUp, LookedUpWithin, MayBeIn}
-use Rattle.core_machine.specs.Kept.{OwnedPath, PathState, file_hold, file_marks, known_from, pending_hold, pending_lines}
+use Rattle.core_machine.specs.Kept.{OwnedPath, PathState, file_hold, file_marks, pending_hold, pending_lines}
 use Rattle.core_machine.specs.LegalSoFar.{CanRun, IsAnsweredUpTo}
 use Rattle.core_machine.specs.Logs.{HoldsStand}
 use Rattle.core_machine.specs.MomentKept.{moment_of}
@@ -41,7 +41,7 @@ pub record StandsForOwner (s : Job) (A : Answering) (now : ℕ) (p : List ℕ) (
   pub marks : file_marks x.path.file ≡ marks_at s A x.path.journal (length x.path.journal)
   pub pieces : (q : Piece) → is_some (file_hold x.path.file q) ≡ true → IsPieceOn s A p q
   pub told : x.told.version ≡ count_by (λ m. nat_lt (phase s m) now) x.path.journal
-  pub known : known_from x.told ≡ known_of (marks_at s A x.path.journal x.told.version)
+  pub known : x.told.attr ≡ known_of (marks_at s A x.path.journal x.told.version)
 
 -- client r's part of path p: whether it is open, what is pending, of pieces that the client wrote to the path and that aren't in
 -- the file, and the greatest version seen with what is known of the file
@@ -53,7 +53,7 @@ pub record StandsForClient (s : Job) (A : Answering) (r : ℕ) (p : List ℕ) (x
   pub apart : (q : Piece) → is_some (pending_hold k q) ≡ true → file_hold x.path.file q ≡ None
   pub seen : k.noted.version ≡ seen s A r p (past_lines s)
   pub within : k.noted.version ≤ length x.path.journal
-  pub known : known_from k.noted ≡ known_of (marks_at s A x.path.journal k.noted.version)
+  pub known : k.noted.attr ≡ known_of (marks_at s A x.path.journal k.noted.version)
 
 -- all that is kept for path p
 pub record Stands (s : Job) (A : Answering) (now : ℕ) (p : List ℕ) (x : PathState) : Type 0 where
@@ -73,7 +73,7 @@ pub record StandsForTask (s : Job) (turns : Places) (logs : List Log) (r : ℕ) 
   pub pins : HoldsStand s logs (task_hold t)
   pub line : (n : ℕ) (o : OpLine) → next_in turns r ≡ Some n → op_at s n ≡ Some o → MayBeIn o.op t
 
--- the version that a client looked up is one of the journal of its next line's path, and a file was there
+-- the version that a client looked up is one of the journal of its next line's path, and the attributes are those of the file then
 pub record StandsForLookUp (s : Job) (A : Answering) (x : OwnedPath) (t : Task) : Type 0 where
   pub within : LookedUpWithin t (length x.path.journal)
   pub known : KnowsLookedUp (λ v. known_of (marks_at s A x.path.journal v)) t

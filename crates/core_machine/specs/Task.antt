@@ -1,5 +1,5 @@
 -- What a client is in the midst of, as the code keeps it.
-use Rattle.std.specs.Prelude.{◌≡◌, ℕ, ◌+◌, ◌<◌, ◌≤◌, true, false, List, length, take, slice_index, All, is_some, Option, Some, None}
+use Rattle.std.specs.Prelude.{◌≡◌, ℕ, ◌+◌, ◌<◌, ◌≤◌, List, length, take, slice_index, All, is_some, Option, Some, None}
 use Rattle.fs_types.specs.FragmentMarks.{mark_at, marks_of_fragments}
 use Rattle.fs_types.specs.Fragments.{fragment_count}
 use Rattle.piece_table.specs.HeldSpans.{is_named}
@@ -29,11 +29,8 @@ pub record PinsRuns (runs : List Fragment) (pins : Pieces PlainHold) : Type 0 wh
   pub piece : (q : Piece) (h : PlainHold) → hold_of pins q ≡ Some h → h.piece ≡ q
   pub within : All (λ f. (h : PlainHold) → hold_of pins f.piece ≡ Some h → f.from + f.len ≤ h.bytes) runs
 
--- it is of a file that is there and not frozen; the runs are those of the bytes shown; of these the bytes of the runs that were fetched
--- are there, and zeros elsewhere
+-- the runs are those of the bytes shown; of these the bytes of the runs that were fetched are there, and zeros elsewhere
 pub record IsReadTask (s : Job) (t : ReadTask) : Type 0 where
-  pub there : t.attr.exists ≡ true
-  pub unfrozen : t.attr.frozen ≡ false
   pub runs_are : runs (marks_of_task t) ≡ t.runs.items
   pub pinned : PinsRuns t.runs.items t.pins
   pub fetched : t.fetched ≤ length t.runs.items

@@ -17,7 +17,7 @@ pub use Rattle.core_machine.specs.Events.Unlink.{unlink_over, unlink_event}
 pub use Rattle.core_machine.specs.Events.Write.{write_where_free, write_within, write_at_front, write_event}
 pub use Rattle.core_machine.specs.Follows.{EventFollows, EventKept, EventSound, Follows, FollowsBy}
 pub use Rattle.core_machine.specs.Follows.{IsWhole, KeepsAll, KeptStand, Knows, KnowsLookedUp}
-pub use Rattle.core_machine.specs.Follows.{LookedUpWithin, MayBeIn, free_in, kept_event}
+pub use Rattle.core_machine.specs.Follows.{HasAttr, LookedUpWithin, MayBeIn, attr_seen, free_in, kept_event}
 pub use Rattle.core_machine.specs.BookFiles.{IsFile, marks_of_file}
 pub use Rattle.core_machine.specs.HoldsKept.{holds_kept, keeps}
 pub use Rattle.core_machine.specs.PendingWrites.{ArePending, IsNonePending}
@@ -34,7 +34,7 @@ pub use Rattle.core_machine.specs.declared.task.Task.TheVariants.{Idle, Read}
 pub use Rattle.core_machine.specs.Kept.{file_hold, file_marks, file_of, pending_hold, pending_lines}
 pub use Rattle.core_machine.specs.Kept.{IsFreshClient, IsFreshPath, AreSound, OwnedPath}
 pub use Rattle.client_files.specs.Noted.{later_of, unseen}
-pub use Rattle.core_machine.specs.Kept.{fresh_owned, known_from, noted_now, owned_in}
+pub use Rattle.core_machine.specs.Kept.{fresh_owned, noted_now, owned_in}
 pub use Rattle.core_machine.specs.Kept.{PathState, owner_told, with_told, kept_now}
 pub use Rattle.core_machine.specs.LegalSoFar.{HasClients, CanRun, IsUnderWay, MayGoOn, IsLegalMoment, Reaches, IsAnsweredUpTo}
 pub use Rattle.core_machine.specs.Moment.{Client, Moment, fresh_client, ready, printed, answering, client_of, journal, IsFirst, has_begun}

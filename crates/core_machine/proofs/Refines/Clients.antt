@@ -5,7 +5,7 @@ use Rattle.fs_types.proofs.Common.{inl, inr, or_cases, and_parts, eqb-true}
 use Rattle.fs_script.specs.Vocabulary.{Answer, Job, Piece, own_at, need, version_of, Answering, after_answer, one_more, over_answers, marks_at, opens}
 use Rattle.fs_script.specs.Vocabulary.{at_least, past_lines, AddsAnswer}
 use Rattle.core_machine.specs.Vocabulary.{Op, OpLine, OwnedPath, ClientPath, Event, Task, Idle, Read, known_of, AreSound, file_hold, pending_hold}
-use Rattle.core_machine.specs.Vocabulary.{known_from, Follows, Knows, KnowsLookedUp, LookedUpWithin}
+use Rattle.core_machine.specs.Vocabulary.{Follows, Knows, KnowsLookedUp, LookedUpWithin}
 use Rattle.core_machine.specs.Vocabulary.{StandsForOwner, StandsForClient}
 use Rattle.fs_script.proofs.CallerLemmas.{over_answers-agree, AgreeBefore-next}
 use Rattle.core_machine.proofs.Refines.NextAnswers.{AgreeBefore-elsewhere, IsOpenFrom, IsOpenFrom-answered, over_answers-until}

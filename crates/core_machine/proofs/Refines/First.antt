@@ -4,7 +4,7 @@ use Rattle.fs_types.proofs.Common.{slice_get, none-some, same_Some, nil_from_len
 use Rattle.fs_types.proofs.Common.{true≢false, refl, sym, ap, subst, ◌∙◌, arith, zip, replicate, AllByRecursion, le-ltb, length-map}
 use Rattle.fs_types.proofs.Common.{length-replicate, get_or-replicate, recursion_from_All, firsts-zip, slice_get_within}
 use Rattle.fs_types.proofs.Common.{get_or_from_slice_get}
-use Rattle.fs_script.specs.Vocabulary.{Given, answer_at, Job, Piece, Answering, ArePaths, marks_at, past_lines}
+use Rattle.fs_script.specs.Vocabulary.{Given, answer_at, Job, Piece, Answering, ArePaths, past_lines}
 use Rattle.slot_plain.specs.Log.{DeviceState, Log}
 use Rattle.slot_plain.specs.Slots.{Slot, free_slot, slot_at}
 use Rattle.fs_script.specs.Grammar.{IsJob, IsShape}
@@ -14,7 +14,7 @@ use Rattle.core_machine.specs.Logs.{fresh_log, fresh_logs}
 use Rattle.core_machine.specs.PathStates.{pending_after}
 use Rattle.core_machine.specs.Vocabulary.{OwnedPath, ClientPath, PathState, Task, Idle, fresh_owned, IsFreshClient, IsFreshPath}
 use Rattle.core_machine.specs.Vocabulary.{CanRun, IsFirst, Places}
-use Rattle.core_machine.specs.Vocabulary.{clients_of, file_hold, file_marks, fresh_client, known_from, known_of, holds_of, moment_of}
+use Rattle.core_machine.specs.Vocabulary.{clients_of, file_hold, fresh_client, holds_of, moment_of}
 use Rattle.core_machine.specs.Vocabulary.{pending_lines, piece_in, pieces_in, slot_in}
 use Rattle.core_machine.specs.Vocabulary.{Holds, IsLogOf, Stands, StandsForOwner, StandsForClient, StandsForLogs, StandsForLookUp, StandsForTask}
 use Rattle.core_machine.proofs.HeldPieces.{pending-none}

@@ -2,7 +2,6 @@
 use Rattle.fs_types.proofs.Common.{◌≡◌, Option, Some, None, IfSome, is_some, refl, ap, ◌∙◌}
 use Rattle.fs_script.specs.Vocabulary.{Job, Piece, bears, cells_of, marks_put}
 use Rattle.core_machine.specs.Vocabulary.{ArePending, BookFile, PlainHold, IsFile, Pending, file_hold, file_marks}
-use Rattle.piece_table.specs.HeldSpans.{held}
 use Rattle.core_machine.proofs.NamedPieces.{is_named-bears}
 
 pub file-bears : (f : Option (BookFile PlainHold)) (q : Piece) → IfSome f IsFile → is_some (file_hold f q) ≡ bears (cells_of (file_marks f)) q

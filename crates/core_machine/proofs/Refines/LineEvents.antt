@@ -4,7 +4,7 @@ use Rattle.fs_types.proofs.Common.{◌≡◌, ◌≢◌, ℕ, false, List, [], �
 use Rattle.fs_types.proofs.Common.{sym, ap, ◌∙◌, subst, arith, same_Some, slice_get-get_or, bytes_eq, bytes_eq-Decides}
 use Rattle.fs_types.proofs.Common.{if◌then◌else◌, inl, inr, cases_Bool, true≢false}
 use Rattle.slot_plain.specs.Log.{Log}
-use Rattle.fs_script.specs.Vocabulary.{Answer, Answering, Given, Job, after_answer, answer_at, op_at, own_op}
+use Rattle.fs_script.specs.Vocabulary.{Answer, Given, Job, after_answer, answer_at, op_at, own_op}
 use Rattle.fs_script.proofs.CallerLemmas.{AddsAnswer-put, other_bytes, over_answers-agree, program-op, same_bytes}
 use Rattle.fs_script.proofs.CallerLemmas.{slice_get-map_some, slice_get-some}
 use Rattle.core_machine.specs.Follows.{FollowsAt, IsSoundAt}

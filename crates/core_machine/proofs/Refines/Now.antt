@@ -1,8 +1,8 @@
 -- What the event of a line sees is what is kept for its path and its client.
 use Rattle.fs_types.proofs.Common.{◌≡◌, ℕ, ◌<◌, length, List, Option, Some, None, max}
-use Rattle.fs_types.proofs.Common.{leb, refl, sym, ap, ◌∙◌, arith, nat_lt, count_by, cond_both}
-use Rattle.fs_script.specs.Vocabulary.{File, Job, Mark, Piece, phase, Answering, marks_at, marked_bytes, seen, front, of_earlier_phases, past_lines}
-use Rattle.core_machine.specs.Vocabulary.{OpLine, OwnedPath, ClientPath, PathNow, known_of, kept_now, known_from, later_of}
+use Rattle.fs_types.proofs.Common.{leb, refl, sym, ap, ◌∙◌, arith, nat_lt, count_by, cond_both, true, length-map}
+use Rattle.fs_script.specs.Vocabulary.{File, Job, Mark, Piece, phase, Answering, marks_at, marked_byte, marked_bytes, seen, front, of_earlier_phases, past_lines}
+use Rattle.core_machine.specs.Vocabulary.{OpLine, OwnedPath, ClientPath, PathNow, known_of, kept_now, later_of}
 use Rattle.client_files.proofs.CallerLemmas.{version-later_of}
 use Rattle.fs_script.proofs.CallerLemmas.{state-by_marks}
 use Rattle.core_machine.specs.Vocabulary.{empty_slots, StandsForOwner, StandsForClient, path_now}
@@ -29,7 +29,8 @@ same_now v w a m b c d e f g i =
 -- what is known of a file by its marks is what is known of it by its bytes
 known-bytes : (s : Job) (f : File (Option Mark)) → known_of f ≡ known_of (marked_bytes s f)
 known-bytes s None = refl
-known-bytes s (Some f) = refl
+known-bytes s (Some f) =
+    λ i. record { exists = true; size = sym (length-map f.cells (marked_byte s)) i; frozen = f.frozen }
 
 pub kept_now-is : {s : Job} {A : Answering} {now n free : ℕ} {o : OpLine} {x : OwnedPath} {k : ClientPath} (log : List (Option Piece))
     → 0 < s.shape.chunk → phase s n ≡ now → IsOwn s A o.rank o.path n o → StandsForOwner s A now o.path x
@@ -44,7 +45,7 @@ kept_now-is {s} {A} {now} {n} {free} {o} {x} {k} log chunk is own owned client r
     (ap (marked_bytes s) owned.marks ∙ state-by_marks s A J (length J) chunk) owned.marks refl
     (client.pending ∙ over_answers-until _ _ s o.rank o.path A n (past_lines s) (omega arith) own.from)
     (client.opened ∙ over_answers-until _ _ s o.rank o.path A n (past_lines s) (omega arith) own.from)
-    front ((cond_both (leb x.told.version k.noted.version) k.noted x.told (λ x. known_from x ≡ at x.version) (λ _. client.known)
+    front ((cond_both (leb x.told.version k.noted.version) k.noted x.told (λ x. x.attr ≡ at x.version) (λ _. client.known)
     (λ _. owned.known)) ∙ ap at front ∙ known-bytes s (marks_at s A J (front_of front))
     ∙ ap known_of (state-by_marks s A J (front_of front) chunk)) room
   where

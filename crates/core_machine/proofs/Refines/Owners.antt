@@ -5,7 +5,7 @@ use Rattle.fs_types.proofs.Common.{sum_by_push, count_by-le-length, IfSome, inl,
 use Rattle.fs_script.specs.Vocabulary.{Answer, File, Job, Mark, Piece, op_at, phase, marks_in, Answering, pending, pending_for, pending_at, effect_of}
 use Rattle.fs_script.specs.Vocabulary.{effect_in, marks_at, AddsAnswer, ComesNext}
 use Rattle.core_machine.specs.Vocabulary.{OpLine, OwnedPath, ClientPath, Event, Task, known_of, IsFile, file_hold}
-use Rattle.core_machine.specs.Vocabulary.{file_marks, known_from, pending_hold, pending_lines, Follows}
+use Rattle.core_machine.specs.Vocabulary.{file_marks, pending_hold, pending_lines, Follows}
 use Rattle.core_machine.specs.Vocabulary.{StandsForOwner, IsPieceBy, IsPieceOn}
 use Rattle.fs_script.proofs.CallerLemmas.{state_in-push, state_in-push_last, pending_at-next, AllByRecursion-weaker, AllByRecursion-push}
 use Rattle.core_machine.proofs.Refines.NextAnswers.{marks-answered}
@@ -117,7 +117,7 @@ StandsForOwner-own {s} {A} {B} {now} {n} {o} {t} {e} {a} {x} {y} {k} h pends fol
         | inr waits ↦ record { client = o.rank; by_client = own q waits }
       ]);
       told = told ∙ stands.told ∙ sym (ap (count_by (λ m. nat_lt (phase s m) now)) K ∙ told-grown s J n now commits h.phase);
-      known = ap known_from follows.told ∙ stands.known ∙ ap known_of (marks-grown J x.told.version commits h.adds h.next stands.answered
+      known = ap (λ b. b.attr) follows.told ∙ stands.known ∙ ap known_of (marks-grown J x.told.version commits h.adds h.next stands.answered
           (subst (λ v. v ≤ length J) (sym stands.told) (told-within s J now))
           ∙ ap (λ (j : List ℕ). marks_at s B j x.told.version) (sym K) ∙ ap (marks_at s B y.path.journal) (sym told));
     }

@@ -1,16 +1,16 @@
 -- The end of a phase: all clients are told of every path, and all that is kept goes on holding in the next phase.
-use Rattle.fs_types.proofs.Common.{◌≡◌, ℕ, zero, suc, ◌<◌, Bool, false, cond, List, [], ◌∷◌, length, map, Option, Some, None, IsSome}
+use Rattle.fs_types.proofs.Common.{◌≡◌, ℕ, zero, suc, ◌<◌, Bool, false, cond, List, [], ◌∷◌, length, map, Some, IsSome}
 use Rattle.fs_types.proofs.Common.{nat_lt, count_by, slice_index, refl, sym, ap, ◌∙◌, subst, arith, zip, slice_get}
 use Rattle.fs_types.proofs.Common.{AllByRecursion, lt-ltb, length-map, sum_by-cons, map-map, same_Some}
-use Rattle.fs_script.specs.Vocabulary.{Given, answer_at, Job, marks_at, phase, program, Answering}
-use Rattle.owner_book.specs.Calls.{attr_in}
+use Rattle.fs_script.specs.Vocabulary.{Given, answer_at, Job, phase, program, Answering}
 use Rattle.core_machine.specs.Kept.{OwnedPath, owner_told}
 use Rattle.slot_plain.specs.Log.{Log}
-use Rattle.core_machine.specs.Vocabulary.{BookFile, PlainHold, PathState, Task, known_of, file_marks, with_told, Places, IsAnsweredUpTo}
+use Rattle.core_machine.specs.Vocabulary.{PathState, Task, known_of, with_told, Places, IsAnsweredUpTo}
 use Rattle.core_machine.specs.Vocabulary.{clients_of, holds_of, moment_of, next_in, pieces_in, Holds}
 use Rattle.core_machine.specs.Vocabulary.{HoldsOfPath, Stands, StandsForLogs, StandsForLookUp}
 use Rattle.core_machine.specs.Vocabulary.{StandsForOwner}
 use Rattle.fs_script.proofs.CallerLemmas.{AllByRecursion-weaker}
+use Rattle.core_machine.proofs.EventsFollow.{known-file}
 use Rattle.core_machine.proofs.Refines.JournalsKept.{journal_kept}
 
 -- lines of phases before a later one are all of the lines
@@ -21,11 +21,6 @@ all-earlier s now (m ∷ J) all =
     let rest = all-earlier s now J all.1 in
     let first = ap (λ b. cond {A = ℕ} b 1 0) (lt-ltb (phase s m) now all.0) in
     omega (arith, rest, first, sum_by-cons (λ k. cond (nat_lt (phase s k) now) 1 0) m J)
-
--- what is noted of a file says what is known of it
-known-noted : (f : Option (BookFile PlainHold)) → record { exists = (attr_in f).exists; frozen = (attr_in f).frozen } ≡ known_of (file_marks f)
-known-noted None = refl
-known-noted (Some f) = refl
 
 -- the owner's part, where every line that was answered is of an earlier phase than the next one
 StandsForOwner-told : {s : Job} {A : Answering} {now : ℕ} (next : ℕ) {p : List ℕ} {x : OwnedPath}
@@ -38,7 +33,7 @@ StandsForOwner-told {s} {A} next {x = x} past stands = record {
   pieces = stands.pieces;
   told = all-earlier s next x.path.journal (AllByRecursion-weaker (λ m. IsSome (A m)) (λ m. phase s m < next) x.path.journal past
       stands.answered);
-  known = known-noted x.path.file ∙ ap known_of stands.marks;
+  known = known-file x.path.file ∙ ap known_of stands.marks;
 }
 
 -- the moment stays

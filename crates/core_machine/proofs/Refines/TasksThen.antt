@@ -1,16 +1,19 @@
 -- What the clients are in the midst of after an event.
-use Rattle.fs_types.proofs.Common.{◌≡◌, ◌≢◌, ℕ, ◌+◌, Bool, true, false, List, length, slice_index, slice_get, Option, Some, None, is_some}
+use Rattle.fs_types.proofs.Common.{◌≡◌, ◌≢◌, ℕ, ◌+◌, List, length, slice_index, slice_get, Option, Some, None}
 use Rattle.fs_types.proofs.Common.{same_Some, refl, sym, ap, ◌∙◌, subst, inl, inr, arith, cases_eq, cond_both}
-use Rattle.fs_types.proofs.Common.{nat_lt, slice_get_within, get_or-set_other, length-set, true≢false, ◌⊎◌, IfSome}
+use Rattle.fs_types.proofs.Common.{nat_lt, slice_get_within, get_or-set_other, length-set}
+use Rattle.fs_types.specs.declared.attr.Attr.{Attr}
 use Rattle.slot_plain.specs.Log.{Log}
+use Rattle.owner_book.specs.Calls.{attr}
 use Rattle.fs_script.specs.Vocabulary.{Answer, File, Given, Job, Mark, op_at, program, marks_at, marks_in, range_of, runs, view_of}
 use Rattle.fs_script.specs.declared.line.Op.TheVariants as ops
 use Rattle.fs_script.proofs.CallerLemmas.{place_unique, slice_get-some, slice_get-set_same, slice_get-set_other}
-use Rattle.core_machine.specs.Vocabulary.{Op, OpLine, PathState, OwnedPath, BookFile, IsFile, PlainHold, Task, Idle}
-use Rattle.core_machine.specs.Vocabulary.{Read, Doing, Reading, nothing, reading, Event, PathNow}
-use Rattle.core_machine.specs.Vocabulary.{Places, free_in, MayBeIn, StandsForLookUp, StandsForTask, doing_of, event_of}
-use Rattle.core_machine.specs.Vocabulary.{file_marks, kept_now, known_of, next_in, lookup_over, read_event, create_over}
+use Rattle.core_machine.specs.Vocabulary.{Op, OpLine, PathState, OwnedPath, Task, Idle}
+use Rattle.core_machine.specs.Vocabulary.{Read, Doing, nothing, reading, Event, PathNow}
+use Rattle.core_machine.specs.Vocabulary.{HasAttr, Places, attr_seen, free_in, MayBeIn, StandsForLookUp, StandsForTask, doing_of, event_of}
+use Rattle.core_machine.specs.Vocabulary.{kept_now, known_of, next_in, lookup_over, read_event, create_over}
 use Rattle.core_machine.specs.Events.Open.{open_over}
+use Rattle.core_machine.proofs.EventsFollow.{known-file}
 use Rattle.core_machine.proofs.Legal.Measured.{event_of-measured, Falls}
 use Rattle.core_machine.proofs.Refines.LinesAnswered.{PathsAfter, KeepsVersions}
 use Rattle.core_machine.proofs.Refines.LogsAfter.{whole-then}
@@ -19,38 +22,35 @@ use Rattle.core_machine.proofs.Refines.Stepped.{Stepped, event, given, given_the
 
 -- ---- the version that an event looks up
 
--- a read under way has looked up the version now, where a file is there, or goes on with what it looked up
-abbrev LooksUp : PathNow → Doing → Doing → Type 0
-LooksUp w d nothing = Unit {0}
-LooksUp w d (reading e) = ((e.version ≡ w.version) × (is_some w.marks ≡ true)) ⊎ ((f : Reading) × (d ≡ reading f) × (e.version ≡ f.version))
+-- a read that begins looks up the version now, and one under way goes on with the one that it has
+abbrev version_seen : PathNow → Doing → ℕ
+version_seen w nothing = w.version
+version_seen w (reading f) = f.version
 
-looks-up : (s : Job) (w : PathNow) (d : Doing) (op : Op) → LooksUp w d (event_of s w d op).doing
+abbrev LooksUp : ℕ → Doing → Type 0
+LooksUp v nothing = Unit {0}
+LooksUp v (reading e) = e.version ≡ v
+
+looks-up : (s : Job) (w : PathNow) (d : Doing) (op : Op) → LooksUp (version_seen w d) (event_of s w d op).doing
 looks-up s w d ops.Create = by w.file where
-  by : (f : File ℕ) → LooksUp w d (create_over w f).doing
+  by : (f : File ℕ) → LooksUp (version_seen w d) (create_over w f).doing
   by None = tt
   by (Some f) = tt
 looks-up s w d ops.Open = by w.file where
-  by : (f : File ℕ) → LooksUp w d (open_over w f).doing
+  by : (f : File ℕ) → LooksUp (version_seen w d) (open_over w f).doing
   by None = tt
   by (Some f) = tt
 looks-up s w d (ops.Write off text) = grind (arith)
 looks-up s w d ops.Sync = grind (arith)
 looks-up s w d (ops.Read off len own) = by d where
-  -- pending writes are seen over a file that is there alone
-  there : (b : Bool) (f : File (Option Mark)) → is_some (view_of s (marks_in s) b w.pending f) ≡ is_some f
-  there true None = refl
-  there true (Some f) = refl
-  there false f = refl
+  over : (f : File (Option Mark)) → LooksUp w.version (lookup_over w f (range_of off len own)).doing
+  over None = tt
+  over (Some f) = refl
 
-  over : (f : File (Option Mark)) → is_some f ≡ is_some w.marks → LooksUp w nothing (lookup_over w f (range_of off len own)).doing
-  over None is = tt
-  over (Some f) is = inl (refl, sym is)
-
-  by : (e : Doing) → LooksUp w e (read_event s w e (range_of off len own)).doing
-  by nothing = cond_both w.is_open _ _ (λ (e : Event). LooksUp w nothing e.doing)
-      (λ _. over (view_of s (marks_in s) own w.pending w.marks) (there own w.marks)) (λ _. tt)
-  by (reading f) = cond_both (nat_lt f.fetched (length (runs f.marks))) _ _ (λ (e : Event). LooksUp w (reading f) e.doing)
-      (λ _. inr (f, refl, refl)) (λ _. tt)
+  by : (e : Doing) → LooksUp (version_seen w e) (read_event s w e (range_of off len own)).doing
+  by nothing = cond_both w.is_open _ _ (λ (e : Event). LooksUp w.version e.doing)
+      (λ _. over (view_of s (marks_in s) own w.pending w.marks)) (λ _. tt)
+  by (reading f) = cond_both (nat_lt f.fetched (length (runs f.marks))) _ _ (λ (e : Event). LooksUp f.version e.doing) (λ _. refl) (λ _. tt)
 looks-up s w d ops.Size = grind (arith)
 looks-up s w d (ops.Trunc n) = grind (arith)
 looks-up s w d ops.Unlink = grind (arith)
@@ -117,41 +117,27 @@ module _ {s : Job} {paths : List (List ℕ)} {states : List PathState} {answers 
       let within = is.within in
       record { within = omega (arith, within, keeps.longer); known = is.known ∙ ap known_of (keeps.same d.version within) }
 
-  -- where a file is there now, that is known of it
-  known-now : is_some (file_marks t.was.owned.path.file) ≡ true
-      → record { exists = true; frozen = false } ≡ known_of (marks_at s (given t) t.was.owned.path.journal (length t.was.owned.path.journal))
-  known-now there = by t.was.owned.path.file (stood t).owned.written there ∙ ap known_of (stood t).owned.marks where
-    by : (f : Option (BookFile PlainHold)) → IfSome f IsFile → is_some (file_marks f) ≡ true → record { exists = true; frozen = false } ≡ known_of (file_marks f)
-    by None written is = absurd (true≢false (sym is))
-    by (Some f) written is = λ i. record { exists = true; frozen = sym written.unfrozen i }
+  -- what the owner has of the file now is known of it
+  known-now : attr t.was.owned.path ≡ known_of (marks_at s (given t) t.was.owned.path.journal (length t.was.owned.path.journal))
+  known-now = known-file t.was.owned.path.file ∙ ap known_of (stood t).owned.marks
 
   -- what the client whose event it is has looked up, by what was kept
-  own-looks : (u : Task) → doing_of u ≡ (event t).doing → StandsForLookUp s (given t) t.was.owned u
-  own-looks Idle is = record { within = tt; known = tt }
-  own-looks (Read d) is =
-      elim (subst (LooksUp seen_now (doing_of t.task)) (sym is)
-      (subst (λ (e : Event). LooksUp seen_now (doing_of t.task) e.doing) (sym t.follows.is) (looks-up s seen_now (doing_of t.task) t.line.op))) [
-        | inl now ↦ record {
-          within = omega (arith, now.0);
-          known = known-now now.1 ∙ ap (λ v. known_of (marks_at s (given t) t.was.owned.path.journal v)) (sym now.0);
-        }
-        | inr goes_on ↦ went_on t.task goes_on.0 goes_on.1 goes_on.2 (looked_up t)
-      ]
+  own-looks : (u : Task) → doing_of u ≡ (event t).doing → HasAttr (attr_seen t.was.owned t.task) u → StandsForLookUp s (given t) t.was.owned u
+  own-looks Idle is has = record { within = tt; known = tt }
+  own-looks (Read d) is has =
+      by t.task (subst (LooksUp (version_seen seen_now (doing_of t.task))) (sym is)
+      (subst (λ (e : Event). LooksUp (version_seen seen_now (doing_of t.task)) e.doing) (sym t.follows.is)
+      (looks-up s seen_now (doing_of t.task) t.line.op))) has (looked_up t)
     where
-      went_on : (v : Task) (f : Reading) → doing_of v ≡ reading f → d.version ≡ f.version → StandsForLookUp s (given t) t.was.owned v
-          → StandsForLookUp s (given t) t.was.owned (Read d)
-      went_on Idle f same version was = absurd cc
-      went_on (Read e) f same version was =
-          let at : e.version ≡ d.version = ap version_in same ∙ sym version in
+      known_at : ℕ → Attr
+      known_at v = known_of (marks_at s (given t) t.was.owned.path.journal v)
+
+      by : (v : Task) → d.version ≡ version_seen seen_now (doing_of v) → d.attr ≡ attr_seen t.was.owned v
+          → StandsForLookUp s (given t) t.was.owned v → StandsForLookUp s (given t) t.was.owned (Read d)
+      by Idle at attr_is was = record { within = omega (arith, at); known = attr_is ∙ known-now ∙ ap known_at (sym at) }
+      by (Read e) at attr_is was =
           let within = was.within in
-          record {
-            within = omega (arith, within, at);
-            known = was.known ∙ ap (λ v. known_of (marks_at s (given t) t.was.owned.path.journal v)) at;
-          }
-        where
-          version_in : Doing → ℕ
-          version_in nothing = 0
-          version_in (reading x) = x.version
+          record { within = omega (arith, within, at); known = attr_is ∙ was.known ∙ ap known_at (sym at) }
 
   pub looked-then : (c : ℕ) (u : Task) (n i : ℕ) (o : OpLine) (x : PathState) → slice_get (tasks_after t) c ≡ Some u
       → next_in (turns_with turns r t.answer) c ≡ Some n → op_at s n ≡ Some o → slice_get paths i ≡ Some o.path
@@ -176,4 +162,4 @@ module _ {s : Job} {paths : List (List ℕ)} {states : List PathState} {answers 
           let here : i ≡ t.place = place_unique paths i t.place t.line.path t.held.named.rising
           (place ∙ ap (λ (l : OpLine). Some l.path) (sym line)) t.at in
           looks-then t.was.owned x.owned (after.versions i t.was x (ap (slice_get states) here ∙ t.there) there) t.task_then
-          (own-looks t.task_then (sym t.follows.doing))
+          (own-looks t.task_then (sym t.follows.doing) t.follows.attr)

@@ -64,11 +64,9 @@ fn begin<D: SpillDev + Drop>(
     requires once { AreInOneSlot logs.old }
     requires held { AreHeldSlots logs.old }
     requires few { (r i : ℕ) → (slot_in logs.old r i).count < 2 ^ 64 - 1 }
-    requires there { attr.exists ≡ true }
-    requires unfrozen { attr.frozen ≡ false }
     ensures { (s : Job) (marks : List (Option Mark)) → IsSeenIn marks off len
         (either_hold (found_hold seen) (pending_in client.now.pending p.now).hold_of) seen → IfOk result (λ t.
-        BeginsRead s marks seen.v (either_hold (found_hold seen) (pending_in client.now.pending p.now).hold_of) t
+        BeginsRead s marks seen.v attr (either_hold (found_hold seen) (pending_in client.now.pending p.now).hold_of) t
         logs.old logs.new) }
 {
     let runs = runs_of(alloc, &seen.frags, off)?;
@@ -96,6 +94,7 @@ fn fetch_next<D: SpillDev + Drop>(t: &mut ReadTask, logs: &mut [PlainLog<D>])
     ensures task { (s : Job) → IsReadTask s t.old → HoldsStand s logs.old (hold_of t.old.pins)
         → IsReadTask s t.new }
     ensures pins { t.new.pins ≡ t.old.pins }
+    ensures attr { t.new.attr ≡ t.old.attr }
     ensures logs { logs.new ≡ logs.old }
 {
     let run = t.runs[t.fetched];

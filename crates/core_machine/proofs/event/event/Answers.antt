@@ -2,9 +2,8 @@
 use Rattle.fs_types.proofs.Common.{refl, subst}
 use Rattle.fs_script.specs.Grammar.{IsOp}
 use Rattle.fs_script.proofs.CallerLemmas.{IsOpLine-from_job}
-use Rattle.fs_script.specs.declared.line.Op.TheVariants.{Create, Open, Read, Size, Sync, Trunc, Unlink, Write}
+use Rattle.fs_script.specs.declared.line.Op.TheVariants.{Create, Open, Size, Sync, Trunc, Unlink, Write}
 use Rattle.client_files.specs.Kept.{told_in}
-use Rattle.owner_book.specs.Kept.{path_in}
 use Rattle.core_machine.specs.ClientPath.{own_of}
 use Rattle.core_machine.specs.Kept.{owned_in}
 use Rattle.core_machine.proofs.EventsEnd.{event-idle, follows-line, follows-quiet, sound-idle, whole-then}

@@ -1,7 +1,7 @@
-use Rattle.fs_types.proofs.Common.{◌≡◌, ◌∙◌, ℕ, List, Option, Some, None, Contains, IfOk, sym, ap, subst, arith, is_some, none-some, option_copied, length}
+use Rattle.fs_types.proofs.Common.{◌≡◌, ◌∙◌, ℕ, List, Option, Some, Contains, sym, ap, subst, arith, none-some, option_copied, length}
 use Rattle.fs_types.proofs.Common.{with_items, with_items_is, false, refl}
 use Rattle.slot_plain.specs.Log.{Log}
-use Rattle.fs_script.specs.Vocabulary.{Answer, Given, Job, op_at, put_answer}
+use Rattle.fs_script.specs.Vocabulary.{Answer, Given, op_at, put_answer}
 use Rattle.fs_script.proofs.CallerLemmas.{op_at-within, program-op}
 use Rattle.core_machine.specs.Core.{IsRun, states}
 use Rattle.core_machine.specs.Follows.{FollowsAt, IsSoundAt}

@@ -1,4 +1,4 @@
-use Rattle.fs_types.proofs.Common.{◌≡◌, ◌∙◌, ◌<◌, ℕ, List, Option, Some, length, set, get_or, ap, refl, sym, arith, slice_get, slice_get-get_or}
+use Rattle.fs_types.proofs.Common.{◌≡◌, ◌∙◌, ℕ, List, Option, Some, set, get_or, ap, sym, arith, slice_get, slice_get-get_or}
 use Rattle.fs_types.proofs.Common.{slice_get_within, same_Some, subst, length-set, IfOk, Result, Ok, Err}
 use Rattle.fs_types.specs.declared.want.Want.{Want}
 use Rattle.owner_book.specs.Kept.{path_in}

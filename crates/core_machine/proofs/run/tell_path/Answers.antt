@@ -1,4 +1,4 @@
-use Rattle.fs_types.proofs.Common.{◌≡◌, ◌∙◌, ap, arith, subst, sym, OnOk}
+use Rattle.fs_types.proofs.Common.{◌∙◌, ap, arith, subst, sym, OnOk}
 use Rattle.client_files.specs.PathMap.{Changes}
 use Rattle.owner_book.specs.Kept.{path_in}
 use Rattle.core_machine.specs.Vocabulary.{Noted, noted_now, told_in}

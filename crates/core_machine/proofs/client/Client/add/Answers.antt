@@ -1,10 +1,8 @@
 -- What is added are the parts of the line.
-use Rattle.fs_types.proofs.Common.{◌≡◌, ◌+◌, ◌≤◌, true, false, true≢false, arith, ap, refl, Err, Ok, OnOk, Result, subst}
-use Rattle.fs_types.proofs.Common.{◌∙◌, sym, max}
+use Rattle.fs_types.proofs.Common.{◌≡◌, true, true≢false, arith, refl, Err, Ok, OnOk, Result}
 use Rattle.std.specs.Result.{is_ok}
 use Rattle.client_map.specs.Kept.{pending_in}
 use Rattle.client_map.proofs.CallerLemmas as map
-use Rattle.core_machine.specs.PendingWrites.{ArePending}
 use Rattle.core_machine.proofs.AddedLines.{pending-added, write-holds}
 use Rattle.core_machine.proofs.client.Client.add.Goals as goal
 

@@ -74,8 +74,7 @@ returns g c = λ s marks is.
     let pins = subst (λ (fs : List Fragment).
     ArePins no_count (either_hold (hold_of c.in_ok-holds.holds) own.hold_of) fs c.in_ok-pins.pins c.args.logs.now c.pin_runs.new.logs)
     c.deref-3.ensures.value c.in_ok-pins.ensures in
-    BeginsRead-pinned s marks c.args.off c.args.len (hold_seen seen own) seen _ c.args.logs.now c.pin_runs.new.logs is refl
-    c.requires.there c.requires.unfrozen refl
+    BeginsRead-pinned s marks c.args.off c.args.len (hold_seen seen own) seen _ c.args.logs.now c.pin_runs.new.logs is refl refl
     (runs_are ∙ seen-runs marks c.args.off c.args.len (hold_seen seen own) seen is) (zeros ∙ ap (λ n. replicate n 0) size)
     (subst (λ (hold_at : Piece → Option PlainHold).
     ArePins no_count hold_at c.in_ok-runs.runs.items c.in_ok-pins.pins c.args.logs.now c.pin_runs.new.logs)

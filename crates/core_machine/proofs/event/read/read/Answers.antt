@@ -3,8 +3,9 @@ use Rattle.std.proofs.Common.{◌≡◌, ◌∙◌, ap, refl, sym, subst, length
 use Rattle.std.proofs.lemmas.Grind.{common_steps}
 use Rattle.fs_script.specs.Vocabulary.{Job, shown}
 use Rattle.fs_script.specs.declared.line.Op.TheVariants.{Read}
+use Rattle.fs_types.specs.declared.attr.Attr.{Attr}
 use Rattle.client_files.specs.declared.noted.Noted.{Noted}
-use Rattle.owner_book.specs.Calls.{version}
+use Rattle.owner_book.specs.Calls.{attr}
 use Rattle.owner_book.specs.Kept.{BookPath, path_in}
 use Rattle.core_machine.specs.ClientPath.{ClientPath, own_of}
 use Rattle.core_machine.specs.declared.plain_hold.PlainHold.{PlainHold}
@@ -43,7 +44,7 @@ returns-then-t-len-clause-follows g c = λ s lines told n r sound.
     rw (c.in-Read.is, c.fetch_next.ensures.logs)
     (EventFollows-fetched s n r c.args.off c.args.len c.args.with_own x k c.args.logs.now c.args.logs.now c.in-Read.t
     (subst (IsTask s) c.in-Read.is sound.whole.task) (subst (KeptStand s c.args.logs.now x k) c.in-Read.is sound.stand)
-    c.fetch_next.new.t left c.fetch_next.ensures.reading c.fetch_next.ensures.pins c.requires.held)
+    c.fetch_next.new.t left c.fetch_next.ensures.reading c.fetch_next.ensures.attr c.fetch_next.ensures.pins c.requires.held)
 
 pub returns-then-t-len-clause-whole : goal.returns-then-t-len-clause-whole
 returns-then-t-len-clause-whole g c = λ s lines told n sound.
@@ -168,8 +169,10 @@ returns-clause-follows g c = λ s lines told n r sound.
     (EventFollows-begun s n r c.args.off c.args.len c.args.with_own x k c.args.logs.now c.begin.new.logs is.file hold_at
     c.in_ok-begin.field-0 (sym c.if-not-is_open.ensures) is.there (subst (KeptStand s c.args.logs.now x k) c.in_default.is sound.stand)
     (seen-stand s c.args.logs.now x k c.args.off c.args.len c.in-Ok.found c.in_ok-seen.seen is c.in_ok-seen.ensures.holds)
-    (subst (λ (v : ℕ). BeginsRead s marks v hold_at c.in_ok-begin.field-0 c.args.logs.now c.begin.new.logs)
-    (c.in_ok-seen.ensures.version ∙ c.in-Ok.ensures.version) begins))
+    (subst (λ (v : ℕ). BeginsRead s marks v (attr x.path) hold_at c.in_ok-begin.field-0 c.args.logs.now c.begin.new.logs)
+    (c.in_ok-seen.ensures.version ∙ c.in-Ok.ensures.version)
+    (subst (λ (b : Attr). BeginsRead s marks c.in_ok-seen.seen.v b hold_at c.in_ok-begin.field-0 c.args.logs.now c.begin.new.logs)
+    (ap (λ (u : ℕ × Attr). u.1) c.attr-v.ensures.attr) begins)))
 
 pub returns-clause-whole : goal.returns-clause-whole
 returns-clause-whole g c = λ s lines told n sound.

@@ -1,6 +1,6 @@
 -- What a truncation leaves: the path as it was where there is no file, and else with the push of what was pending over its file, which
 -- is then cut or extended.
-use Rattle.fs_types.proofs.Common.{◌≡◌, ◌∙◌, ℕ, List, [], ap, arith, common_steps, false, refl, sym, true}
+use Rattle.fs_types.proofs.Common.{◌≡◌, ℕ, List, [], arith, common_steps, false, refl, sym, true}
 use Rattle.std.proofs.lemmas.Result.{on_ok_weaker}
 use Rattle.fs_script.specs.Vocabulary.{Job}
 use Rattle.fs_script.specs.declared.line.Op.TheVariants.{Trunc}
