@@ -84,6 +84,7 @@ enum Said {
     Done(u64),
     Wrote(u32),
     NoSpace(u64, u64),
+    NoEnt(u64),
     Shown(u64, [u8; 3]),
 }
 
@@ -92,6 +93,7 @@ fn is_said(answer: Option<&Answer>, said: &Said) -> bool {
         (Some(Answer::Done { v }), Said::Done(w)) => v.0 == *w,
         (Some(Answer::Wrote { slots }), Said::Wrote(k)) => *slots == *k,
         (Some(Answer::NoSpace { need, free }), Said::NoSpace(k, f)) => *need == *k && *free == *f,
+        (Some(Answer::NoEnt { v }), Said::NoEnt(w)) => v.0 == *w,
         (Some(Answer::Shown { v, n, body }), Said::Shown(w, text)) => {
             v.0 == *w && *n == 3 && matches!(body, Body::Hex(b) if b.as_bytes() == text.as_slice())
         }
@@ -99,13 +101,14 @@ fn is_said(answer: Option<&Answer>, said: &Said) -> bool {
     }
 }
 
-// A job whose file is /unifyfs/a, of three bytes.
+// A job whose file is /unifyfs/a.
 struct Case {
     script: &'static [u8],
     events: &'static [Event],
     answers: &'static [(u32, Said)],
     journal: &'static [u32],
-    md5: [u8; 16],
+    // The digest of the three bytes that the file has in the end, or none where it is gone.
+    md5: Option<[u8; 16]>,
     // For each client how many slots are held in the end, and how many are free.
     slots: &'static [(u64, u64)],
 }
@@ -144,7 +147,7 @@ barrier
         (10, Said::Shown(2, *b"abc")),
     ],
     journal: &[2, 4, 7],
-    md5: *b"\xac\xbd\x18\xdb\x4c\xc2\xf8\x5c\xed\xef\x65\x4f\xcc\xc4\xa4\xd8",
+    md5: Some(*b"\xac\xbd\x18\xdb\x4c\xc2\xf8\x5c\xed\xef\x65\x4f\xcc\xc4\xa4\xd8"),
     slots: &[(2, 1), (0, 3)],
 };
 
@@ -183,7 +186,7 @@ barrier
         (11, Said::Shown(2, *b"abc")),
     ],
     journal: &[2, 4, 7],
-    md5: *b"\xac\xbd\x18\xdb\x4c\xc2\xf8\x5c\xed\xef\x65\x4f\xcc\xc4\xa4\xd8",
+    md5: Some(*b"\xac\xbd\x18\xdb\x4c\xc2\xf8\x5c\xed\xef\x65\x4f\xcc\xc4\xa4\xd8"),
     slots: &[(2, 0), (0, 2)],
 };
 
@@ -216,7 +219,7 @@ barrier
     ],
     answers: &[(7, Said::Shown(2, *b"abc")), (9, Said::Shown(2, *b"abc"))],
     journal: &[2, 4],
-    md5: *b"\x90\x01\x50\x98\x3c\xd2\x4f\xb0\xd6\x96\x3f\x7d\x28\xe1\x7f\x72",
+    md5: Some(*b"\x90\x01\x50\x98\x3c\xd2\x4f\xb0\xd6\x96\x3f\x7d\x28\xe1\x7f\x72"),
     slots: &[(1, 0), (0, 1), (0, 1)],
 };
 
@@ -244,8 +247,106 @@ const THREE_FETCHES: Case = Case {
     ],
     answers: &[(4, Said::Wrote(1)), (6, Said::Shown(2, *b"aXc"))],
     journal: &[2, 5],
-    md5: *b"\xff\x93\x27\x98\xe2\x90\xe9\x8d\x8c\x67\xde\x64\x7d\xbf\x35\x3f",
+    md5: Some(*b"\xff\x93\x27\x98\xe2\x90\xe9\x8d\x8c\x67\xde\x64\x7d\xbf\x35\x3f"),
     slots: &[(2, 1)],
+};
+
+// Pending writes are put over the file and over its end, and it is cut: the slot of what was cut is
+// free, and the next sync has nothing to put.
+const CUT: Case = Case {
+    script: b"unifyfs 1 servers=1 clients=1 chunk=64 shmem=3 spill=0
+0 create /unifyfs/a
+0 write /unifyfs/a 0 t:abc
+0 sync /unifyfs/a
+0 write /unifyfs/a 0 t:X
+0 write /unifyfs/a 3 t:def
+0 trunc /unifyfs/a 3
+0 sync /unifyfs/a
+0 read /unifyfs/a 0 3
+",
+    events: &[
+        (0, [0, 0, 0]),
+        (0, [1, 0, 0]),
+        (0, [1, 0, 0]),
+        (0, [1, 1, 0]),
+        (0, [1, 1, 1]),
+        // The truncation, and the sync.
+        (0, [1, 1, 0]),
+        (0, [1, 1, 0]),
+        // The look-up, a fetch from each piece, and the finish.
+        (0, [2, 2, 0]),
+        (0, [2, 2, 0]),
+        (0, [2, 2, 0]),
+        (0, [1, 1, 0]),
+    ],
+    answers: &[
+        (7, Said::Done(3)),
+        (8, Said::Done(3)),
+        (9, Said::Shown(3, *b"Xbc")),
+    ],
+    journal: &[2, 4, 7],
+    md5: Some(*b"\x15\xa6\xeb\x72\x7b\xd5\xdf\x86\x44\x06\xff\x30\x0e\x25\xcb\x09"),
+    slots: &[(2, 1)],
+};
+
+// A client reads with its pending write over the file, and then the file alone.
+const OWN_WRITE: Case = Case {
+    script: b"unifyfs 1 servers=1 clients=1 chunk=64 shmem=3 spill=0
+0 create /unifyfs/a
+0 write /unifyfs/a 0 t:abc
+0 sync /unifyfs/a
+0 write /unifyfs/a 1 t:X
+0 readown /unifyfs/a 0 3
+0 read /unifyfs/a 0 3
+",
+    events: &[
+        (0, [0, 0, 0]),
+        (0, [1, 0, 0]),
+        (0, [1, 0, 0]),
+        (0, [1, 1, 0]),
+        // The look-up pins both pieces; three fetches, and the finish.
+        (0, [2, 2, 0]),
+        (0, [2, 2, 0]),
+        (0, [2, 2, 0]),
+        (0, [2, 2, 0]),
+        (0, [1, 1, 0]),
+        // This one pins the file's piece alone; one fetch, and the finish.
+        (0, [2, 1, 0]),
+        (0, [2, 1, 0]),
+        (0, [1, 1, 0]),
+    ],
+    answers: &[(6, Said::Shown(2, *b"aXc")), (7, Said::Shown(2, *b"abc"))],
+    journal: &[2, 4],
+    md5: Some(*b"\x90\x01\x50\x98\x3c\xd2\x4f\xb0\xd6\x96\x3f\x7d\x28\xe1\x7f\x72"),
+    slots: &[(2, 1)],
+};
+
+// Another client takes the file away, which frees its slot; the sync that finds it gone frees the
+// slot of what was pending.
+const TAKEN_AWAY: Case = Case {
+    script: b"unifyfs 1 servers=1 clients=2 chunk=64 shmem=3 spill=0
+0 create /unifyfs/a
+0 write /unifyfs/a 0 t:abc
+0 sync /unifyfs/a
+0 write /unifyfs/a 0 t:foo
+0 sync /unifyfs/a
+1 open /unifyfs/a
+1 unlink /unifyfs/a
+",
+    events: &[
+        (0, [0, 0, 0]),
+        (0, [1, 0, 0]),
+        (0, [1, 0, 0]),
+        (0, [1, 1, 0]),
+        // The open, and the unlink.
+        (1, [1, 1, 0]),
+        (1, [0, 1, 0]),
+        (0, [0, 0, 0]),
+    ],
+    answers: &[(6, Said::NoEnt(3)), (7, Said::Done(2)), (8, Said::Done(3))],
+    journal: &[2, 4, 8],
+    md5: None,
+    slots: &[(0, 3), (0, 3)],
 };
 
 // Whether a file has so many bytes, of this digest.
@@ -256,10 +357,26 @@ fn is_of(file: &FileState, len: u64, digest: &[u8; 16]) -> bool {
     }
 }
 
+// Whether a file has three bytes of this digest, or is gone where there is none.
+fn is_left(file: &FileState, md5: &Option<[u8; 16]>) -> bool {
+    match md5 {
+        Some(digest) => is_of(file, 3, digest),
+        None => matches!(file, FileState::Gone),
+    }
+}
+
 #[test]
 fn slots_are_held_as_is_said_after_each_event(rt: HostRuntime) -> Result<(), Fail> {
     let alloc = rt.alloc();
-    for case in &[OVERWRITTEN, FULL, TWO_READERS, THREE_FETCHES] {
+    for case in &[
+        OVERWRITTEN,
+        FULL,
+        TWO_READERS,
+        THREE_FETCHES,
+        CUT,
+        OWN_WRITE,
+        TAKEN_AWAY,
+    ] {
         let script = script_of(alloc, case.script)?;
         let mut core = core_of(alloc, &script)?;
         let as_said = events_as_said(&mut core, case.events)?;
@@ -285,7 +402,7 @@ fn slots_are_held_as_is_said_after_each_event(rt: HostRuntime) -> Result<(), Fai
         let a = Path::read(alloc, b"/unifyfs/a")?;
         let journal = core.journal(&a).iter().map(|n| n.0);
         assert!(rt; journal.eq(case.journal.iter().copied()));
-        assert!(rt; is_of(&core.file(&a)?, 3, &case.md5));
+        assert!(rt; is_left(&core.file(&a)?, &case.md5));
         assert_eq!(rt; core.into_devices().len(), script.shape().clients as usize);
     }
     Ok(())
