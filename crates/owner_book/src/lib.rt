@@ -34,6 +34,10 @@
 //! - `hold_of` lends the hold of one piece, to read or to change, or gives none where the file
 //!   doesn't name the piece.
 //!
+//! `part_within` is no call of a book: it is for who walks fragments of another list as a look-up
+//! walks those of a file. Of the first fragment that ends behind the beginning of a range, which the
+//! caller gives as `Spans::next` does, it gives what stands in the range, if anything does.
+//!
 //! **Refusals.** `BookNo` says why a call is refused, by the path's own file and version: it
 //! exists, there is none, it is frozen, or, where none of these holds, memory ran out. After a
 //! refusal the book is as before, and a push comes back; only a `lookup` that ran out of memory may

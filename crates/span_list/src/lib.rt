@@ -18,7 +18,8 @@
 //! what `SpanList::into_frags` gives.
 //!
 //! `rest_before` and `rest_from` cut one fragment at a place: what of it stands before, and what
-//! from there on, with the place in its piece where that begins.
+//! from there on, with the place in its piece where that begins. `rest_before` asks nothing, and
+//! `rest_from` for a fragment that may be put.
 //!
 //! ```
 //! let piece = PieceId {

@@ -60,13 +60,15 @@ fn begin<D: SpillDev + Drop>(
 ) -> Result<ReadTask, Want>
     requires seen { (marks : List (Option Mark)) × IsSeenIn marks off len
         (either_hold (found_hold seen) (pending_in client.now.pending p.now).hold_of) seen }
-    requires slots { HaveSlots logs.old (either_hold (found_hold seen) (pending_in client.now.pending p.now).hold_of) }
+    requires slots { HaveSlots logs.old
+        (either_hold (found_hold seen) (pending_in client.now.pending p.now).hold_of) }
     requires once { AreInOneSlot logs.old }
     requires held { AreHeldSlots logs.old }
     requires few { (r i : ℕ) → (slot_in logs.old r i).count < 2 ^ 64 - 1 }
     ensures { (s : Job) (marks : List (Option Mark)) → IsSeenIn marks off len
-        (either_hold (found_hold seen) (pending_in client.now.pending p.now).hold_of) seen → IfOk result (λ t.
-        BeginsRead s marks seen.v attr (either_hold (found_hold seen) (pending_in client.now.pending p.now).hold_of) t
+        (either_hold (found_hold seen) (pending_in client.now.pending p.now).hold_of) seen
+        → IfOk result (λ t. BeginsRead s marks seen.v attr
+        (either_hold (found_hold seen) (pending_in client.now.pending p.now).hold_of) t
         logs.old logs.new) }
 {
     let runs = runs_of(alloc, &seen.frags, off)?;

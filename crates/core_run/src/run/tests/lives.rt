@@ -144,14 +144,15 @@ barrier
 0 trunc /unifyfs/a 3
 ";
 
-// The look-up of line 7 comes before line 8, and the read finishes between lines 12 and 13. So line 9
-// finds no slot for the second piece is in the file, and line 12 none for it is being read. The
-// pattern of seed 7 is 75, 106, 137, 168, 199, 230, 5 and 36 from its byte 60 on.
+// Lines 8 and 9 come before line 6, the look-up of line 7 before line 10, and the read finishes
+// between lines 12 and 13. So line 9 finds no slot, for the second piece is in the file, and line 12
+// none, for it is being read. The pattern of seed 7 is 75, 106, 137, 168, 199, 230, 5 and 36 from its
+// byte 60 on.
 const TRUNCATIONS_REPORT: &[u8] = b"L 2 ok v=1
 L 3 ok slots=2
 L 4 ok v=2
-L 6 ok v=2
-L 7 ok v=2 n=8 hex=4b6a89a8c7e60524
+L 6 ok v=3
+L 7 ok v=3 n=8 hex=4b6a89a8c7e60524
 L 8 ok v=3
 L 9 nospace need=1 free=0
 L 10 ok v=3 n=70 frozen=0
@@ -284,7 +285,7 @@ pub const LIVES: [Case; 7] = [
     ),
     (
         TRUNCATIONS,
-        &[0, 0, 0, 1, 1, 0, 0, 0, 0, 0, 1, 1, 1, 0],
+        &[0, 0, 0, 0, 0, 1, 1, 0, 0, 0, 1, 1, 1, 0],
         TRUNCATIONS_REPORT,
     ),
     (NOTHING_LEFT_TO_SYNC, &[0], SYNC_FINDS_ITS_OWN),
