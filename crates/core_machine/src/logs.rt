@@ -2,7 +2,7 @@
 //! touches the devices that the logs were given, and nothing else.
 
 ghost use Rattle.std.specs.Prelude.{◌≡◌, ◌≤◌, ◌<◌, ◌+◌, ◌*◌, ◌-◌, ◌^◌, ◌∷◌, [], All, AllPairs};
-ghost use Rattle.std.specs.Prelude.{length, map, slice_get, slice_range, slice_set, vec_capacity};
+ghost use Rattle.std.specs.Prelude.{length, map, min, slice_get, slice_range, slice_set, vec_capacity};
 ghost use Rattle.std.specs.Prelude.{false, Err, IsSome, IfSome, IfOk, IfErr, OnOk, OnErr};
 ghost use Rattle.fs_script.specs.Vocabulary.{Job, need, part, payload, write_at};
 ghost use Rattle.slot_plain.specs.Slots.{free_slots, slot_at, taken_slot};
@@ -98,7 +98,7 @@ fn fill_part<D: SpillDev + Drop>(
 ) -> PlainHold
     requires is_write { IsSome (write_at s.now n) }
     requires within { part * s.now.shape.chunk < length (payload s.now n) }
-    requires buffer { length buffer.old ≡ s.now.shape.chunk }
+    requires buffer { min (length (payload s.now n)) s.now.shape.chunk ≤ length buffer.old }
     requires in_memory { IsInMemory s.now log.old }
     requires taken { slot_at log.old.slots slot ≡ taken_slot }
     ensures hold { result ≡ part_hold s.now log.old.rank n part slot }
@@ -147,7 +147,8 @@ pub fn fill_line<D: SpillDev + Drop>(
     if free < need {
         return Err(TakeNo::NoSpace { need, free });
     }
-    let mut buffer = vec![in alloc; 0; chunk as usize].map_err(Want::from)?;
+    let longest = len.min(u64::from(chunk));
+    let mut buffer = vec![in alloc; 0; longest as usize].map_err(Want::from)?;
     let mut holds = Vec::with_capacity(alloc, need as usize).map_err(Want::from)?;
     let slots = log.take(alloc, need)?;
     for (part, slot) in slots.iter().enumerate() {

@@ -74,14 +74,15 @@ pub fn write<D: SpillDev + Drop>(
         (own_of client.new p.now (after_answer (Op.Write off text.now) a n lines))) }
     ensures elsewhere { ChangesOwn client.old client.new p.now }
 {
-    let front = client.files.at_front(board, p);
     match client.files.may_write(board, p) {
         May::BadF => return Ok(Answer::BadF),
         May::NoEnt(v) => {
+            let front = client.files.at_front(board, p);
             client.note(alloc, p, front.version, front.attr)?;
             return Ok(Answer::NoEnt { v });
         }
         May::ReadOnly(v) => {
+            let front = client.files.at_front(board, p);
             client.note(alloc, p, front.version, front.attr)?;
             return Ok(Answer::ReadOnly { v });
         }

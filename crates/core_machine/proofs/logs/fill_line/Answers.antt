@@ -1,3 +1,4 @@
+use Rattle.fs_types.proofs.Common.{common_steps}
 use Rattle.std.proofs.Common.{◌≡◌, [], get_or, length, take, arith, ap, ◌∙◌, rules}
 use Rattle.std.proofs.lemmas.List.{length-append, length-drop, length-take}
 use Rattle.std.proofs.lemmas.Option.{slice_get-get_or}
@@ -13,7 +14,7 @@ loop-part-init g c =
     let taken = c.in_ok-slots.ensures in
     let empty : c.in_ok-holds.holds.items ≡ [] = search rules in
     record {
-      buffer = search rules;
+      buffer = grind (arith, common_steps);
       room = search rules;
       filled = rw (empty, c.deref-slot-items.ensures.value)
           (filled-none c.args.s.now c.args.n c.in_ok-slots.slots.items c.args.log.now c.take.new.self taken.taken taken.each
