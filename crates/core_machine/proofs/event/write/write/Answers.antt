@@ -81,7 +81,7 @@ module _ (g : Over) (c : In_ok-note-in-ReadOnly g) (lines : List ℕ) (x0 : Book
       ends-frozen c.args.s.now c.args.n (owned_of x0 (told_in c.args.board.now c.args.p.now)) k c.args.off c.args.text.now c.in-ReadOnly.v
       (own_of c.note-in-ReadOnly.new.self c.args.p.now lines) says.0 says.3
       (c.in_ok-note-in-ReadOnly.ensures.noted lines
-      ∙ ap (λ (m : Noted). let l : ClientPath = record k { noted = later_of k.noted m } in l) c.at_front-front.ensures) says.1 says.2
+      ∙ ap (λ (m : Noted). let l : ClientPath = record k { noted = later_of k.noted m } in l) c.at_front-front-in-ReadOnly.ensures) says.1 says.2
 
 pub returns-in-ReadOnly-clause-follows : goal.returns-in-ReadOnly-clause-follows
 returns-in-ReadOnly-clause-follows g c = λ lines x0 sound.
