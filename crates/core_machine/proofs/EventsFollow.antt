@@ -43,6 +43,16 @@ known-file None = refl
 known-file (Some f) =
     λ i. record { exists = true; size = sym (length-map-range_with_len (mark_at f.held.fragments) 0 f.size) i; frozen = f.frozen }
 
+-- of a path whose line commits nothing the same is noted
+pub noted-kept : {s : Job} {n : ℕ} {op : Op} {t : Task} {e : Event} {x y : OwnedPath} {k l : ClientPath} {a : Answer}
+    → Follows s n op t e x k y l a → e.commits ≡ false → noted_now y.path ≡ noted_now x.path
+noted-kept {s} {n} {op} {t} {e} {x} {y} {k} follows none =
+    let journal = follows.journal ∙ ap (λ b. if b then x.path.journal ++ n ∷ [] else x.path.journal) none in
+    let marks = follows.marks
+    ∙ ap (λ b. if b then effect_of s (marks_in s) op (pending_lines k) (file_marks x.path.file) else file_marks x.path.file) none in
+    let known = known-file y.path.file ∙ ap known_of marks ∙ sym (known-file x.path.file) in
+    λ i. record { version = length (journal i); attr = known i }
+
 module _ (x : OwnedPath) (k : ClientPath) (t : Task) (a : Answer) where
   -- an answer that prints no version
   pub notes-none : version_of a ≡ None → Notes x k t a k.noted

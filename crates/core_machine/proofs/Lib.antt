@@ -35,6 +35,7 @@ pub mod Filled
 pub mod WriteLogs
 pub mod Writes
 pub mod EventsFollow
+pub mod QuietOperations
 pub mod FileEvents
 pub mod EventsEnd
 pub mod SettledSlots

@@ -19,7 +19,7 @@ moment r = moment_of r.script.now r.paths (states r) r.answers r.turns r.tasks.i
 -- until memory runs out all that is kept holds, and stands for a moment of a legal run
 pub record IsRun {D : Type 0} (r : Run D) : Type 0 where
   pub kept : AreKept r.script.now r.books.items r.clients.items
-  pub told : r.spent ≡ false → AreToldBut r.script.now r.ended.items r.board r.books.items
+  pub told : r.spent ≡ false → AreToldBut r.script.now r.changing.items r.board r.books.items
   pub phases : IsInPhase r.turns
   pub holds : r.spent ≡ false → Holds r.script.now r.paths (states r) r.answers r.turns r.tasks.items r.logs.items
   pub legal : (told : List ℕ) → r.spent ≡ false → IsLegalMoment told (moment r)

@@ -1,9 +1,10 @@
 //! The events of a run, one module for each operation: the answer to a line, if it has come to its
 //! end, and what is kept after it.
 
-ghost use Rattle.std.specs.Prelude.{◌≡◌, ℕ, List, Some, IfOk};
+ghost use Rattle.std.specs.Prelude.{◌≡◌, ◌∷◌, [], ℕ, List, Some, IfOk};
 ghost use Rattle.fs_script.specs.Grammar.{IsJob};
 ghost use Rattle.fs_script.specs.Job.{op_at};
+ghost use Rattle.fs_script.specs.Vocabulary.{commits};
 ghost use Rattle.core_machine.specs.Books.{ChangesOne};
 ghost use Rattle.core_machine.specs.Follows.{EventFollows, EventSound, IsWhole};
 ghost use Rattle.core_machine.specs.ClientPath.{ChangesOwn, lines_then, own_of};
@@ -28,6 +29,17 @@ use fs_script::{Op, OpLine, Script};
 use fs_types::{Answer, LineNo, Want};
 use slot_plain::PlainLog;
 use std::alloc::Global;
+
+/// Whether a line of this operation is committed once it is done with something pending; no other
+/// changes a file.
+pub fn may_commit(op: &Op) -> bool
+    ensures { (n : ℕ) → result ≡ commits op.now (n ∷ []) }
+{
+    match op {
+        Op::Create | Op::Sync | Op::Trunc { .. } | Op::Unlink => true,
+        Op::Open | Op::Write { .. } | Op::Read { .. } | Op::Size => false,
+    }
+}
 
 /// One event of line `n`, of whose path the book has the file; `client` is its client, and `task`
 /// what that is in the midst of. No answer means that the line goes on. After want of memory all

@@ -47,8 +47,8 @@ pub struct Run<'s, D: SpillDev + Drop> {
     pub books: Vec<Book>,
     /// What all clients were told of paths.
     pub board: Board,
-    /// The lines that came to their end since they were told last.
-    pub ended: Vec<LineNo>,
+    /// The lines that may have changed a file since they were told last.
+    pub changing: Vec<LineNo>,
     /// What each client keeps, by rank.
     pub clients: Vec<Client>,
     /// What each client is in the midst of, by rank.
@@ -103,7 +103,7 @@ pub fn first_run<'s, D: SpillDev + Drop>(
         paths,
         books,
         board,
-        ended: Vec::new(alloc),
+        changing: Vec::new(alloc),
         clients,
         tasks,
         logs,
@@ -167,7 +167,7 @@ fn event_of_line<D: SpillDev + Drop>(run: &mut Run<'_, D>, r: Rank) -> Result<bo
     requires going { Contains (going run.old.turns) r }
     ensures kept { AreKept run.new.script.now run.new.books.items run.new.clients.items }
     ensures sized { length run.new.logs.items ≡ length run.old.logs.items }
-    ensures told { OnOk result (AreToldBut run.new.script.now run.new.ended.items run.new.board
+    ensures told { OnOk result (AreToldBut run.new.script.now run.new.changing.items run.new.board
         run.new.books.items) }
     ensures holds { IfOk result (λ answered. Holds run.new.script.now run.new.paths
         (states run.new) run.new.answers (turns_then answered r run.new.turns)
@@ -178,7 +178,7 @@ fn event_of_line<D: SpillDev + Drop>(run: &mut Run<'_, D>, r: Rank) -> Result<bo
         ≡ step (moment run.old) (record { client = r })) }
     ensures rest { run.new ≡ record run.old {
       books = run.new.books;
-      ended = run.new.ended;
+      changing = run.new.changing;
       clients = run.new.clients;
       tasks = run.new.tasks;
       logs = run.new.logs;
@@ -203,7 +203,9 @@ fn event_of_line<D: SpillDev + Drop>(run: &mut Run<'_, D>, r: Rank) -> Result<bo
     match answer {
         Some(answer) => {
             run.answers.set(n, answer);
-            run.ended.push(n)?;
+            if event::may_commit(&o.op) {
+                run.changing.push(n)?;
+            }
             Ok(true)
         }
         None => Ok(false),
@@ -234,13 +236,13 @@ fn tell(
     s: &Script,
     books: &[Book],
     board: &mut Board,
-    ended: &[LineNo],
+    changing: &[LineNo],
 ) -> Result<(), Want>
     requires servers { length books.now ≡ s.now.shape.servers }
-    requires told { AreToldBut s.now ended.now board.old books.now }
+    requires told { AreToldBut s.now changing.now board.old books.now }
     ensures { OnOk result (AreToldBut s.now [] board.new books.now) }
 {
-    for n in ended {
+    for n in changing {
         if let Some(o) = operation(s, *n) {
             tell_path(alloc, s, books, board, &o.path)?;
         }
@@ -249,17 +251,17 @@ fn tell(
 }
 
 // Goes on to the next line of a client, and where that begins a phase, tells all clients of the paths
-// of the lines that ended since they were told. After want of memory what was told is open.
+// of the lines that may have changed one since they were told. After want of memory what was told is open.
 fn go_on<D: SpillDev + Drop>(run: &mut Run<'_, D>, r: Rank) -> Result<(), Want>
     requires kept { AreKept run.old.script.now run.old.books.items run.old.clients.items }
-    requires told { AreToldBut run.old.script.now run.old.ended.items run.old.board
+    requires told { AreToldBut run.old.script.now run.old.changing.items run.old.board
         run.old.books.items }
     requires going { Contains (going run.old.turns) r }
     requires holds { Holds run.old.script.now run.old.paths (states run.old) run.old.answers
         (after_line run.old.turns r) run.old.tasks.items run.old.logs.items }
     requires unspent { run.old.spent ≡ false }
     ensures phases { IsInPhase run.new.turns }
-    ensures told { OnOk result (AreToldBut run.new.script.now run.new.ended.items run.new.board
+    ensures told { OnOk result (AreToldBut run.new.script.now run.new.changing.items run.new.board
         run.new.books.items) }
     ensures holds { OnOk result (Holds run.new.script.now run.new.paths (states run.new)
         run.new.answers run.new.turns run.new.tasks.items run.new.logs.items) }
@@ -268,7 +270,7 @@ fn go_on<D: SpillDev + Drop>(run: &mut Run<'_, D>, r: Rank) -> Result<(), Want>
         (after_line run.old.turns r) run.old.tasks.items run.old.logs.items false) }
     ensures rest { run.new ≡ record run.old {
       board = run.new.board;
-      ended = run.new.ended;
+      changing = run.new.changing;
       turns = run.new.turns;
     } }
 {
@@ -278,9 +280,9 @@ fn go_on<D: SpillDev + Drop>(run: &mut Run<'_, D>, r: Rank) -> Result<(), Want>
             run.script,
             &run.books,
             &mut run.board,
-            &run.ended,
+            &run.changing,
         )?;
-        run.ended.clear();
+        run.changing.clear();
     }
     Ok(())
 }

@@ -6,7 +6,7 @@ use Rattle.core_machine.specs.Books.{path_at}
 use Rattle.core_machine.specs.Core.{IsRun, moment, states}
 use Rattle.core_machine.specs.LegalSoFar.{IsLegalMoment}
 use Rattle.core_machine.specs.PathStates.{pending_after, states_of}
-use Rattle.core_machine.specs.Vocabulary.{Book, Holds, PathState, PlainHold, moment_of}
+use Rattle.core_machine.specs.Vocabulary.{Book, Holds, PathState, PlainHold, moment_of, noted_now}
 use Rattle.core_machine.specs.declared.run.Run.{Run}
 use Rattle.core_machine.proofs.Refines.Told.{told-same}
 
@@ -23,7 +23,7 @@ module _ {D : Type 0} (r : Run D) (books : Vec (Book PlainHold) _) (size : lengt
   pub IsRun-same : IsRun r → IsRun (record r { books = books })
   IsRun-same run = record {
     kept = record { servers = size ∙ run.kept.servers; ranks = run.kept.ranks; chunks = run.kept.chunks };
-    told = λ going. told-same same (run.told going);
+    told = λ going. told-same (λ q. ap noted_now (same q)) (run.told going);
     phases = run.phases;
     holds = λ going. subst (λ (xs : List PathState). Holds r.script.now r.paths xs r.answers r.turns r.tasks.items r.logs.items)
         (sym states-same) (run.holds going);

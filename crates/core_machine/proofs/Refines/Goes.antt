@@ -56,7 +56,7 @@ module _ {D : Type 0} {old : Run D} (r : ℕ) (run : IsRun old) (may : Contains 
   -- and a run that kept its script, its devices and as many logs goes on, or is spent
   pub IsRun-on : {new : Run D} → new.script ≡ old.script → new.devices ≡ old.devices → length new.logs.items ≡ length old.logs.items
       → AreKept new.script.now new.books.items new.clients.items → IsInPhase new.turns
-      → (new.spent ≡ false → AreToldBut new.script.now new.ended.items new.board new.books.items)
+      → (new.spent ≡ false → AreToldBut new.script.now new.changing.items new.board new.books.items)
       → (new.spent ≡ false → Holds new.script.now new.paths (states new) new.answers new.turns new.tasks.items new.logs.items)
       → (new.spent ≡ false → moment new ≡ step (moment old) (record { client = r })) → IsRun new
   IsRun-on {new} script devices sized kept phases told holds then = record {

@@ -4,14 +4,14 @@ use Rattle.fs_types.proofs.Common.{◌≡◌, ◌≢◌, ℕ, false, List, [], �
 use Rattle.fs_types.proofs.Common.{sym, ap, ◌∙◌, subst, arith, same_Some, slice_get-get_or, bytes_eq, bytes_eq-Decides}
 use Rattle.fs_types.proofs.Common.{if◌then◌else◌, inl, inr, cases_Bool, true≢false}
 use Rattle.slot_plain.specs.Log.{Log}
-use Rattle.fs_script.specs.Vocabulary.{Answer, Given, Job, after_answer, answer_at, op_at, own_op}
+use Rattle.fs_script.specs.Vocabulary.{Answer, Given, Job, after_answer, answer_at, commits, op_at, own_op}
 use Rattle.fs_script.proofs.CallerLemmas.{AddsAnswer-put, other_bytes, over_answers-agree, program-op, same_bytes}
 use Rattle.fs_script.proofs.CallerLemmas.{slice_get-map_some, slice_get-some}
 use Rattle.core_machine.specs.Follows.{FollowsAt, IsSoundAt}
 use Rattle.core_machine.specs.Kept.{owned_of}
 use Rattle.core_machine.specs.PathStates.{AreKept, AreToldBut, own_parts, pending_after, state_of, states_in}
 use Rattle.core_machine.specs.Vocabulary.{Book, FollowsBy, Holds, KeptBoard, KeptClient, OpLine, OwnedPath, PathState, Places, PlainHold, Task}
-use Rattle.core_machine.specs.Vocabulary.{answers_with, lines_then, moment_of, own_of, path_at, step, told_in}
+use Rattle.core_machine.specs.Vocabulary.{Event, answers_with, doing_of, free_in, kept_now, lines_then, moment_of, noted_now, own_of, path_at, step, told_in}
 use Rattle.core_machine.proofs.Places.{StandsNext}
 use Rattle.core_machine.proofs.Refines.Clients.{IsOwn, over_answers-own}
 use Rattle.core_machine.proofs.Refines.Goes.{GoesNow}
@@ -21,11 +21,8 @@ use Rattle.core_machine.proofs.Refines.StatesOfPaths.{own-elsewhere, parts-at, p
 use Rattle.core_machine.proofs.Refines.Stepped.{Stepped, own-next, own_op-other, states_then, turns_with}
 use Rattle.core_machine.proofs.Refines.Steps.{Holds-after, paths-after, step-is}
 use Rattle.core_machine.proofs.Refines.Told.{told-ended, told-same}
-
--- the lines that ended since all clients were told, once line n had this answer, or none
-abbrev pub ended_then : ℕ → Option Answer → List ℕ → List ℕ
-ended_then n None lines = lines
-ended_then n (Some a) lines = lines ++ n ∷ []
+use Rattle.core_machine.proofs.EventsFollow.{noted-kept}
+use Rattle.core_machine.proofs.QuietOperations.{commits-nothing}
 
 -- ---- the line
 
@@ -176,18 +173,36 @@ module _ {s : Job} {paths : List (List ℕ)} {books : List (Book PlainHold)} {bo
         ∙ ap (λ us. moment_of s paths (states_then stepped) given_after (turns_with turns r a) us logs' false) follows.goes_on
         ∙ step-is stepped (paths-after stepped)
 
-    -- of each path that no line is on that ended, all clients know
-    pub told-line : {ended : List ℕ} → AreToldBut s ended board books → AreToldBut s (ended_then t.number a ended) board books'
-    told-line {ended} told = by a refl
-      where
-        by : (b : Option Answer) → a ≡ b → AreToldBut s (ended_then t.number b ended) board books'
-        by None is = told-same (λ q. elim (cases_Bool (bytes_eq q t.line.path)) [
-          | inl here ↦
-              let same = (bytes_eq-Decides q t.line.path).0 here in
-              let all = subst (FollowsBy s t.number t.line.op follows.task_was follows.follows.event (state_was t.line.path).owned
-              (own_of follows.was t.line.path (lines r t.line.path)) (state_then t.line.path).owned
-              (own_of follows.now t.line.path (lines_then t.line.op t.number (lines r t.line.path) a))) is follows.follows.kept in
-              ap (path_at books') same ∙ ap (λ (x : OwnedPath). x.path) all.owned ∙ ap (path_at books) (sym same)
-          | inr off ↦ path-other q (λ e. true≢false (sym (same_bytes q t.line.path e) ∙ off))
-        ]) told
-        by (Some b) is = told-ended t.number t.line t.is path-other told
+    -- where what is noted of its path stays, all clients go on knowing of the paths that they knew of
+    told-kept : {changing : List ℕ} → noted_now (state_then t.line.path).owned.path ≡ noted_now (state_was t.line.path).owned.path
+        → AreToldBut s changing board books → AreToldBut s changing board books'
+    told-kept kept = told-same (λ q. elim (cases_Bool (bytes_eq q t.line.path)) [
+      | inl here ↦
+          let same = (bytes_eq-Decides q t.line.path).0 here in
+          ap (λ p. noted_now (path_at books' p)) same ∙ kept ∙ ap (λ p. noted_now (path_at books p)) (sym same)
+      | inr off ↦ ap noted_now (path-other q (λ e. true≢false (sym (same_bytes q t.line.path e) ∙ off)))
+    ])
+
+    -- so it is where the line goes on
+    pub told-on : {changing : List ℕ} → a ≡ None → AreToldBut s changing board books → AreToldBut s changing board books'
+    told-on none =
+        let all = subst (FollowsBy s t.number t.line.op follows.task_was follows.follows.event (state_was t.line.path).owned
+        (own_of follows.was t.line.path (lines r t.line.path)) (state_then t.line.path).owned
+        (own_of follows.now t.line.path (lines_then t.line.op t.number (lines r t.line.path) a))) none follows.follows.kept in
+        told-kept (ap (λ (x : OwnedPath). noted_now x.path) all.owned)
+
+    -- and where it ends, and is of an operation that is never committed
+    pub told-quiet : {changing : List ℕ} (answer : Answer) → a ≡ Some answer → commits t.line.op (0 ∷ []) ≡ false
+        → AreToldBut s changing board books → AreToldBut s changing board books'
+    told-quiet answer is none =
+        let all = subst (FollowsBy s t.number t.line.op follows.task_was follows.follows.event (state_was t.line.path).owned
+        (own_of follows.was t.line.path (lines r t.line.path)) (state_then t.line.path).owned
+        (own_of follows.now t.line.path (lines_then t.line.op t.number (lines r t.line.path) a))) is follows.follows.kept in
+        let quiet = ap (λ (e : Event). e.commits) follows.follows.is
+        ∙ commits-nothing s (kept_now s (state_was t.line.path).owned (own_of follows.was t.line.path (lines r t.line.path)) (free_in logs r))
+        (doing_of follows.task_was) t.line.op none in
+        told-kept (noted-kept all quiet)
+
+    -- any other changes its own path alone
+    pub told-then : {changing : List ℕ} → AreToldBut s changing board books → AreToldBut s (changing ++ t.number ∷ []) board books'
+    told-then told = told-ended t.number t.line t.is path-other told

@@ -14,10 +14,11 @@ use Rattle.core_machine.specs.Vocabulary.{Book, KeptBoard, OpLine, PlainHold, no
 off-path : (o : OpLine) (p : List ℕ) → p ≢ o.path → is_on p (Some o) ≡ false
 off-path o p other = other_bytes o.path p (λ e. other (sym e))
 
--- of each path the books have what they had
+-- what is noted of each path is what was
 pub told-same : {s : Job} {board : KeptBoard} {books books' : List (Book PlainHold)} {lines : List ℕ}
-    → ((q : List ℕ) → path_at books' q ≡ path_at books q) → AreToldBut s lines board books → AreToldBut s lines board books'
-told-same same told = record { each = λ q none. told.each q none ∙ ap noted_now (sym (same q)) }
+    → ((q : List ℕ) → noted_now (path_at books' q) ≡ noted_now (path_at books q)) → AreToldBut s lines board books
+    → AreToldBut s lines board books'
+told-same same told = record { each = λ q none. told.each q none ∙ sym (same q) }
 
 -- one line more ended, and changed its own path alone
 pub told-ended : {s : Job} {board : KeptBoard} {books books' : List (Book PlainHold)} {lines : List ℕ} (n : ℕ) (o : OpLine)

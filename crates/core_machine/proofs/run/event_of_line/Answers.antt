@@ -9,7 +9,7 @@ use Rattle.core_machine.specs.PathStates.{AreKept, AreToldBut, states_in}
 use Rattle.core_machine.specs.Vocabulary.{Book, Holds, KeptClient, OpLine, PlainHold, Task, after_line, going, moment_of, next_in, step}
 use Rattle.core_machine.specs.declared.run.Run.{Run}
 use Rattle.core_machine.proofs.Refines.Goes.{goes-kept}
-use Rattle.core_machine.proofs.Refines.LineEvents.{NextLine, holds-line, lines, sound-line, step-line, told-line}
+use Rattle.core_machine.proofs.Refines.LineEvents.{NextLine, holds-line, lines, sound-line, step-line, told-on, told-quiet, told-then}
 use Rattle.core_machine.proofs.run.event_of_line.Goals as goal
 
 pub unreachable-requires : goal.unreachable-requires
@@ -76,14 +76,14 @@ returns-in-None g c =
     record {
       kept = subst (λ (X : Type 0). X) (λ i. AreKept r.script.now (sym books i) (sym clients i)) c.event_on_path.ensures.kept;
       sized = ap length logs ∙ c.event_on_path.auto.logs ∙ ap length c.deref_mut-4.ensures.value;
-      told = told-line t f (c.requires.run.told c.requires.unspent);
+      told = told-on t f refl (c.requires.run.told c.requires.unspent);
       holds = holds-line t f;
       step = step-line t f ∙ ap (λ b. step (moment_of r.script.now r.paths (states r) r.answers r.turns r.tasks.items r.logs.items b)
           (record { client = c.args.r })) (sym c.requires.unspent);
       rest = refl;
     }
 
--- the line was answered
+-- the line was answered, and may have changed a file
 pub returns-in_ok-push-in-Some-answer : goal.returns-in_ok-push-in-Some-answer
 returns-in_ok-push-in-Some-answer g c =
     let r = c.args.run.now in
@@ -103,7 +103,36 @@ returns-in_ok-push-in-Some-answer g c =
       kept = subst (λ (X : Type 0). X) (λ i. AreKept r.script.now (sym books i) (sym clients i)) c.event_on_path.ensures.kept;
       sized = ap length logs ∙ c.event_on_path.auto.logs ∙ ap length c.deref_mut-4.ensures.value;
       told = subst (λ (ls : List ℕ). AreToldBut r.script.now ls r.board (with_items r.books new.books).items)
-          (sym c.in_ok-push-in-Some-answer.ensures.items) (told-line t f (c.requires.run.told c.requires.unspent));
+          (sym c.in_ok-push-in-Some-answer.ensures.items) (told-then t f (c.requires.run.told c.requires.unspent));
+      holds = subst (λ (a : Given). Holds r.script.now r.paths (then a) a (after_line r.turns c.args.r) (with_items r.tasks new.tasks).items
+          (with_items r.logs new.logs).items) answers (holds-line t f);
+      step = ap (λ (a : Given). moment_of r.script.now r.paths (then a) a (after_line r.turns c.args.r) (with_items r.tasks new.tasks).items
+          (with_items r.logs new.logs).items false) (sym answers) ∙ step-line t f
+          ∙ ap (λ b. step (moment_of r.script.now r.paths (states r) r.answers r.turns r.tasks.items r.logs.items b)
+          (record { client = c.args.r })) (sym c.requires.unspent);
+      rest = refl;
+    }
+
+-- it was answered, and is of an operation that is never committed
+pub returns-else-may_commit : goal.returns-else-may_commit
+returns-else-may_commit g c =
+    let r = c.args.run.now in
+    let new = c.event_on_path.new in
+    let books = with_items_is r.books new.books (c.event_on_path.auto.books ∙ c.deref_mut.ensures.len) in
+    let clients = with_items_is r.clients new.clients (c.event_on_path.auto.clients ∙ c.deref_mut-2.ensures.len) in
+    let tasks = with_items_is r.tasks new.tasks (c.event_on_path.auto.tasks ∙ c.deref_mut-3.ensures.len) in
+    let logs = with_items_is r.logs new.logs (c.event_on_path.auto.logs ∙ c.deref_mut-4.ensures.len) in
+    let t = line-of c.args.r c.next-n.result c.in-Some.o.now c.requires.run c.requires.unspent c.requires.going c.next-n.ensures.next
+    (sym c.operation.ensures ∙ ap option_copied c.in-Some.is) in
+    let f = follows-lent r t c.deref_mut.ensures.value c.deref_mut-2.ensures.value c.deref_mut-3.ensures.value c.deref_mut-4.ensures.value
+    books clients tasks logs c.in-Some-answer.is c.in_ok-answer.ensures.follows in
+    let answers : record { lines = r.answers.lines; list = put_answer c.next-n.result c.in-Some-answer.answer r.answers.list } ≡ c.set.new.self =
+    λ i. record { lines = sym c.set.ensures.lines i; list = sym c.set.ensures.list i } in
+    let then = λ (a : Given). states_in r.script.now (with_items r.books new.books).items r.board (with_items r.clients new.clients).items a r.paths in
+    record {
+      kept = subst (λ (X : Type 0). X) (λ i. AreKept r.script.now (sym books i) (sym clients i)) c.event_on_path.ensures.kept;
+      sized = ap length logs ∙ c.event_on_path.auto.logs ∙ ap length c.deref_mut-4.ensures.value;
+      told = told-quiet t f c.in-Some-answer.answer refl (sym (c.if-may_commit.ensures 0)) (c.requires.run.told c.requires.unspent);
       holds = subst (λ (a : Given). Holds r.script.now r.paths (then a) a (after_line r.turns c.args.r) (with_items r.tasks new.tasks).items
           (with_items r.logs new.logs).items) answers (holds-line t f);
       step = ap (λ (a : Given). moment_of r.script.now r.paths (then a) a (after_line r.turns c.args.r) (with_items r.tasks new.tasks).items

@@ -11,9 +11,9 @@ loop-n-preserved c =
     let s = c.args.s.now in
     let books = c.args.books.now in
     let next : suc c.loop-n.n-index ≡ c.loop-n.n-index + 1 = omega arith in
-    let rest = drop (c.loop-n.n-index + 1) c.args.ended.now in
-    let left : drop c.loop-n.n-index c.args.ended.now ≡ c.n-item.result ∷ rest =
-    drop-cons c.args.ended.now c.loop-n.n-index c.n-item.result c.loop-n-test.true ∙ (λ i. sym c.n-item.is i ∷ drop (next i) c.args.ended.now) in
+    let rest = drop (c.loop-n.n-index + 1) c.args.changing.now in
+    let left : drop c.loop-n.n-index c.args.changing.now ≡ c.n-item.result ∷ rest =
+    drop-cons c.args.changing.now c.loop-n.n-index c.n-item.result c.loop-n-test.true ∙ (λ i. sym c.n-item.is i ∷ drop (next i) c.args.changing.now) in
     let told = subst (λ (ls : List ℕ). AreToldBut s ls c.loop-n.board books) left c.loop-n.invariant in
     elim c.match-operation.branch [
       | in-Some+in_ok-tell_path w ↦ subst (λ (b : KeptBoard). AreToldBut s rest b books) (sym w.board-is)
