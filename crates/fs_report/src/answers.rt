@@ -22,36 +22,36 @@ fn append_answer(alloc: Global, out: &mut Vec<u8>, answer: &Answer) -> Result<()
     ensures { OnOk result (out.new.items ≡ out.old.items ++ spaced (answer_words answer.now)) }
 {
     match answer {
-        Answer::Done { v } => append_number(alloc, out, b"ok v=", v.0)?,
-        Answer::Wrote { slots } => append_number(alloc, out, b"ok slots=", u64::from(*slots))?,
+        Answer::Done { v } => append_number(out, b"ok v=", v.0)?,
+        Answer::Wrote { slots } => append_number(out, b"ok slots=", u64::from(*slots))?,
         Answer::Staged { v, n, slots } => {
-            append_number(alloc, out, b"ok v=", v.0)?;
-            append_number(alloc, out, b" n=", *n)?;
-            append_number(alloc, out, b" slots=", u64::from(*slots))?;
+            append_number(out, b"ok v=", v.0)?;
+            append_number(out, b" n=", *n)?;
+            append_number(out, b" slots=", u64::from(*slots))?;
         }
         Answer::Sized { v, n, frozen } => {
-            append_number(alloc, out, b"ok v=", v.0)?;
-            append_number(alloc, out, b" n=", *n)?;
+            append_number(out, b"ok v=", v.0)?;
+            append_number(out, b" n=", *n)?;
             append_flag(out, *frozen)?;
         }
         Answer::Shown { v, n, body } => {
-            append_number(alloc, out, b"ok v=", v.0)?;
-            append_number(alloc, out, b" n=", *n)?;
+            append_number(out, b"ok v=", v.0)?;
+            append_number(out, b" n=", *n)?;
             out.push(b' ')?;
             append_body(alloc, out, body)?;
         }
         Answer::BadF => out.extend_from_slice(b"badf")?,
-        Answer::Exists { v } => append_number(alloc, out, b"exists v=", v.0)?,
-        Answer::NoEnt { v } => append_number(alloc, out, b"noent v=", v.0)?,
-        Answer::ReadOnly { v } => append_number(alloc, out, b"readonly v=", v.0)?,
+        Answer::Exists { v } => append_number(out, b"exists v=", v.0)?,
+        Answer::NoEnt { v } => append_number(out, b"noent v=", v.0)?,
+        Answer::ReadOnly { v } => append_number(out, b"readonly v=", v.0)?,
         Answer::TooBig => out.extend_from_slice(b"toobig")?,
-        Answer::TooBigAt { v } => append_number(alloc, out, b"toobig v=", v.0)?,
+        Answer::TooBigAt { v } => append_number(out, b"toobig v=", v.0)?,
         Answer::NoSpace { need, free } => {
-            append_number(alloc, out, b"nospace need=", *need)?;
-            append_number(alloc, out, b" free=", *free)?;
+            append_number(out, b"nospace need=", *need)?;
+            append_number(out, b" free=", *free)?;
         }
         Answer::DevFault { rank } => {
-            append_number(alloc, out, b"devfault r=", u64::from(rank.0))?;
+            append_number(out, b"devfault r=", u64::from(rank.0))?;
         }
     }
     Ok(())
@@ -65,7 +65,7 @@ fn append_answer_line(
 ) -> Result<(), Want>
     ensures { OnOk result (out.new.items ≡ out.old.items ++ answer_line (line, answer.now)) }
 {
-    append_number(alloc, out, b"L ", u64::from(line.0))?;
+    append_number(out, b"L ", u64::from(line.0))?;
     out.push(b' ')?;
     append_answer(alloc, out, answer)?;
     out.push(b'\n')?;

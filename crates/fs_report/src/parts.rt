@@ -6,15 +6,15 @@ ghost use Rattle.hex.specs.Hex.{encode_lower};
 ghost use Rattle.fs_script.specs.Text.{flag_text};
 
 use fs_types::Want;
+use itoa::Buffer;
 use std::alloc::Global;
 
 /// Appends a name and a number.
-pub fn append_number(alloc: Global, out: &mut Vec<u8>, name: &[u8], n: u64) -> Result<(), Want>
+pub fn append_number(out: &mut Vec<u8>, name: &[u8], n: u64) -> Result<(), Want>
     ensures { OnOk result (out.new.items ≡ out.old.items ++ (name.now ++ decimal n)) }
 {
     out.extend_from_slice(name)?;
-    let digits = n.to_string(alloc)?;
-    out.extend_from_slice(digits.as_bytes())?;
+    out.extend_from_slice(Buffer::new().format(n).as_bytes())?;
     Ok(())
 }
 

@@ -11,26 +11,21 @@ use fs_plain::Journals;
 use fs_types::{FileState, LineNo, Path, Want};
 use std::alloc::Global;
 
-fn append_entries(alloc: Global, out: &mut Vec<u8>, journal: &[LineNo]) -> Result<(), Want>
+fn append_entries(out: &mut Vec<u8>, journal: &[LineNo]) -> Result<(), Want>
     ensures { OnOk result (out.new.items ≡ out.old.items ++ flat_map entry_text journal.now) }
 {
     for line in journal {
-        append_number(alloc, out, b" ", u64::from(line.0))?;
+        append_number(out, b" ", u64::from(line.0))?;
     }
     Ok(())
 }
 
-fn append_journal(
-    alloc: Global,
-    out: &mut Vec<u8>,
-    path: &Path,
-    journal: &[LineNo],
-) -> Result<(), Want>
+fn append_journal(out: &mut Vec<u8>, path: &Path, journal: &[LineNo]) -> Result<(), Want>
     ensures { OnOk result (out.new.items ≡ out.old.items ++ journal_line (path.now, journal.now)) }
 {
     out.extend_from_slice(b"J ")?;
     out.extend_from_slice(path.as_bytes())?;
-    append_entries(alloc, out, journal)?;
+    append_entries(out, journal)?;
     out.push(b'\n')?;
     Ok(())
 }
@@ -41,14 +36,14 @@ fn append_state(alloc: Global, out: &mut Vec<u8>, state: &FileState) -> Result<(
     match state {
         FileState::Gone => out.extend_from_slice(b" none")?,
         FileState::Whole { n, frozen, md5 } => {
-            append_number(alloc, out, b" n=", *n)?;
+            append_number(out, b" n=", *n)?;
             append_flag(out, *frozen)?;
             append_hex(alloc, out, b" md5=", &md5.0)?;
         }
         FileState::Unread { n, frozen, rank } => {
-            append_number(alloc, out, b" n=", *n)?;
+            append_number(out, b" n=", *n)?;
             append_flag(out, *frozen)?;
-            append_number(alloc, out, b" devfault r=", u64::from(rank.0))?;
+            append_number(out, b" devfault r=", u64::from(rank.0))?;
         }
     }
     Ok(())
@@ -76,7 +71,7 @@ pub fn append_paths(
 {
     for i in 0..journals.len() {
         let (path, journal) = journals.at(i);
-        append_journal(alloc, out, path, journal)?;
+        append_journal(out, path, journal)?;
         let (path, state) = files.at(i);
         append_file(alloc, out, path, state)?;
     }

@@ -19,7 +19,7 @@ pub fn report_text(alloc: Global, r: &Report) -> Result<Vec<u8>, Want>
     let mut out = Vec::new(alloc);
     append_answers(alloc, &mut out, &r.answers)?;
     append_paths(alloc, &mut out, &r.journals, &r.files)?;
-    append_slots(alloc, &mut out, &r.slots)?;
+    append_slots(&mut out, &r.slots)?;
     out.extend_from_slice(b"end\n")?;
     Ok(out)
 }

@@ -28,40 +28,35 @@ fn reason_text(reason: Reason) -> &'static [u8]
     }
 }
 
-fn append_over_limit(alloc: Global, out: &mut Vec<u8>, line: LineNo) -> Result<(), Want>
+fn append_over_limit(out: &mut Vec<u8>, line: LineNo) -> Result<(), Want>
     ensures { OnOk result
         (out.new.items ≡ out.old.items ++ refusal_line (ScriptFault.OverLimit line)) }
 {
-    append_number(alloc, out, b"refused limit line=", u64::from(line.0))?;
+    append_number(out, b"refused limit line=", u64::from(line.0))?;
     out.push(b'\n')?;
     Ok(())
 }
 
-fn append_bad_line(
-    alloc: Global,
-    out: &mut Vec<u8>,
-    line: LineNo,
-    reason: Reason,
-) -> Result<(), Want>
+fn append_bad_line(out: &mut Vec<u8>, line: LineNo, reason: Reason) -> Result<(), Want>
     ensures { OnOk result
         (out.new.items ≡ out.old.items ++ refusal_line (ScriptFault.BadLine line reason)) }
 {
-    append_number(alloc, out, b"refused line=", u64::from(line.0))?;
+    append_number(out, b"refused line=", u64::from(line.0))?;
     out.extend_from_slice(b" reason=")?;
     out.extend_from_slice(reason_text(reason))?;
     out.push(b'\n')?;
     Ok(())
 }
 
-fn append_refusal(alloc: Global, out: &mut Vec<u8>, fault: &ScriptFault) -> Result<(), Want>
+fn append_refusal(out: &mut Vec<u8>, fault: &ScriptFault) -> Result<(), Want>
     ensures { OnOk result (out.new.items ≡ out.old.items ++ refusal_line fault.now) }
 {
     match fault {
         ScriptFault::TooLong => out.extend_from_slice(b"refused long\n")?,
         ScriptFault::TooManyLines => out.extend_from_slice(b"refused lines\n")?,
         ScriptFault::BadHeader => out.extend_from_slice(b"refused header\n")?,
-        ScriptFault::OverLimit { line } => append_over_limit(alloc, out, *line)?,
-        ScriptFault::BadLine { line, reason } => append_bad_line(alloc, out, *line, *reason)?,
+        ScriptFault::OverLimit { line } => append_over_limit(out, *line)?,
+        ScriptFault::BadLine { line, reason } => append_bad_line(out, *line, *reason)?,
         ScriptFault::Want => {}
     }
     Ok(())
@@ -72,6 +67,6 @@ pub fn refusal_text(alloc: Global, fault: &ScriptFault) -> Result<Vec<u8>, Want>
     ensures { IfOk result (λ v. v.items ≡ refusal_line fault.now) }
 {
     let mut out = Vec::new(alloc);
-    append_refusal(alloc, &mut out, fault)?;
+    append_refusal(&mut out, fault)?;
     Ok(out)
 }
