@@ -1,18 +1,23 @@
-//! What a file is known by: its gfid and its path together, since two paths may have one gfid.
+//! What a file is known by: its gfid and its path together, since two paths may have one gfid. It is
+//! hashed by its gfid alone, which is from a digest of the path already.
 
 use indexmap::Equivalent;
 
 /// What a file is known by.
-#[derive(Debug, Drop, PartialEq, Eq, Hash)]
+#[derive(Debug, Drop, PartialEq, Eq)]
+#[derive_where(Hash)]
 pub struct FileKey {
     pub gfid: u64,
+    #[derive_where(skip(Hash))]
     pub path: Vec<u8>,
 }
 
 /// A file's key, lent for a look-up.
-#[derive(Clone, Copy, Debug, PartialEq, Eq, Hash)]
+#[derive(Clone, Copy, Debug, PartialEq, Eq)]
+#[derive_where(Hash)]
 pub struct FileName<'p> {
     pub gfid: u64,
+    #[derive_where(skip(Hash))]
     pub path: &'p [u8],
 }
 
