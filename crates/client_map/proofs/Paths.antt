@@ -46,11 +46,6 @@ module _ {H S : Type 0} where
           ap (λ (r : List ℕ). pending_found (get_by (is_text r) new)) ((bytes_eq-Decides q p).0 e) ∙ ap pending_found updates.1
       by false e = ap pending_found (updates.3 (is_text q) (IsKeyTest-text q) (AreApart-texts p q e))
 
--- nothing is found where nothing is there
-pub not-found : {X : Type 0} (o : Option X) → is_some o ≡ false → o ≡ None
-not-found None none = refl
-not-found (Some x) none = absurd (true≢false none)
-
 pub OnSome-weaker : {X P Q : Type 0} (o : Option X) → (P → Q) → OnSome o P → OnSome o Q
 OnSome-weaker None f p = tt
 OnSome-weaker (Some x) f p = f p

@@ -1,6 +1,6 @@
 //! What one client has pending, path by path.
 
-ghost use Rattle.std.specs.Prelude.{◌≡◌, ◌≤◌, ◌<◌, ◌+◌, ◌↔◌, ℕ, List, All, length, max, Some};
+ghost use Rattle.std.specs.Prelude.{◌≡◌, ◌≤◌, ◌<◌, ◌+◌, ◌↔◌, ℕ, List, All, length, max, None, Some};
 ghost use Rattle.std.specs.Prelude.{IfErr, IfOk, IfSome, IsSome, IsTrue, OnErr, OnOk};
 ghost use Rattle.std.specs.Borrow.{sem};
 ghost use Rattle.std.specs.Option.{option_copied, option_copied_mut};
@@ -85,14 +85,12 @@ impl<H: Hold + Drop, S: Spans + Drop> ClientMap<H, S> {
         }
     }
 
-    // Makes a place for a path, unless it has one.
+    // Makes a place for a path that has none.
     fn enter(&mut self, alloc: Global, path: &[u8]) -> Result<(), Want>
+        requires { lookup (is_text path.now) self.old.paths ≡ None }
         ensures there { OnOk result (IsSome (lookup (is_text path.now) self.new.paths)) }
         ensures same { IsAsBefore self.old self.new }
     {
-        if self.paths.contains_key(path) {
-            return Ok(());
-        }
         self.paths
             .insert(Vec::from_slice(alloc, path)?, PendingPath::new(alloc))?;
         Ok(())
@@ -128,6 +126,9 @@ impl<H: Hold + Drop, S: Spans + Drop> ClientMap<H, S> {
         ensures holds { HasHolds H.is_ready H.piece H.bytes self.new p.now }
     {
         let path = p.as_bytes();
+        if let Some(kept) = self.paths.get_mut(path) {
+            return kept.add(alloc, self.chunk, off, len, holds);
+        }
         if self.enter(alloc, path).is_err() {
             return Err((Want, holds));
         }
