@@ -1,4 +1,5 @@
 pub mod Noted
 pub mod PathMap
+pub mod PathLends
 pub mod Kept
 pub mod Deeds

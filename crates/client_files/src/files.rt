@@ -65,9 +65,15 @@ impl Files {
             (with_open (path_in self.old p.now))) }
         ensures same { OnErr result (IsAsBefore (path_in self.old) (path_in self.new)) }
     {
-        let mut path = self.path(p);
-        path.is_open = true;
-        self.paths.set(alloc, p, path)
+        if let Some(path) = self.paths.get_mut(p) {
+            path.is_open = true;
+            return Ok(());
+        }
+        let path = FilePath {
+            is_open: true,
+            ..UNTOUCHED
+        };
+        self.paths.insert(alloc, p, path)
     }
 
     /// Notes a version of a path with the attributes of its file there. Of two versions the greater
@@ -82,9 +88,15 @@ impl Files {
             version: v,
             attr: a,
         };
-        let mut path = self.path(p);
-        path.noted = path.noted.later(noted);
-        self.paths.set(alloc, p, path)
+        if let Some(path) = self.paths.get_mut(p) {
+            path.noted = path.noted.later(noted);
+            return Ok(());
+        }
+        let path = FilePath {
+            noted: UNTOUCHED.noted.later(noted),
+            ..UNTOUCHED
+        };
+        self.paths.insert(alloc, p, path)
     }
 
     /// Whether the client has opened a path.
@@ -109,10 +121,11 @@ impl Files {
     pub fn may_write(&self, b: &Board, p: &Path) -> May
         ensures { result ≡ may_write_in self.now b.now p.now }
     {
-        if !self.is_open(p) {
+        let path = self.path(p);
+        if !path.is_open {
             return May::BadF;
         }
-        let Noted { version, attr } = self.at_front(b, p);
+        let Noted { version, attr } = path.noted.later(b.told(p));
         if !attr.exists {
             May::NoEnt(version)
         } else if attr.frozen {

@@ -1,7 +1,9 @@
 //! A value for each of some paths, found by the bytes of the path.
 
 ghost use Rattle.std.specs.Prelude.{◌≡◌, ℕ, List, None, Some, OnErr, OnOk};
-ghost use Rattle.std.specs.Option.{option_copied};
+ghost use Rattle.std.specs.Borrow.{sem};
+ghost use Rattle.std.specs.Option.{option_copied, option_copied_mut};
+ghost use Rattle.client_files.specs.PathLends.{lends_value};
 ghost use Rattle.client_files.specs.PathMap.{Changes, IsAsBefore, entry_at};
 
 use fs_types::{Path, Want};
@@ -42,18 +44,38 @@ impl<T: Drop> PathMap<T> {
         self.entries.get(p.as_bytes())
     }
 
-    /// Sets the value for a path. After want of memory the map is as before.
-    pub fn set(&mut self, alloc: Global, p: &Path, value: T) -> Result<(), Want>
+    /// The value for a path, to change. What is left behind the reference is the value then; every
+    /// other stays.
+    pub fn get_mut(&mut self, p: &Path) -> Option<&mut T>
+        ensures* writes_back { sem 𝓛 (lends_value T.row self.entry p.now result) }
+        ensures value { option_copied_mut result ≡ entry_at self.old p.now }
+    {
+        self.entries.get_mut(p.as_bytes())
+    }
+
+    /// Sets the value for a path, with a copy of the path's bytes. It is meant for a path that has
+    /// none. After want of memory the map is as before.
+    pub fn insert(&mut self, alloc: Global, p: &Path, value: T) -> Result<(), Want>
         ensures set { OnOk result
             (Changes (entry_at self.old) (entry_at self.new) p.now (Some value)) }
         ensures same { OnErr result (IsAsBefore (entry_at self.old) (entry_at self.new)) }
     {
         let path = p.as_bytes();
-        if let Some(there) = self.entries.get_mut(path) {
+        self.entries.insert(Vec::from_slice(alloc, path)?, value)?;
+        Ok(())
+    }
+
+    /// Sets the value for a path. Where it has one already, that takes no memory. After want of
+    /// memory the map is as before.
+    pub fn set(&mut self, alloc: Global, p: &Path, value: T) -> Result<(), Want>
+        ensures set { OnOk result
+            (Changes (entry_at self.old) (entry_at self.new) p.now (Some value)) }
+        ensures same { OnErr result (IsAsBefore (entry_at self.old) (entry_at self.new)) }
+    {
+        if let Some(there) = self.get_mut(p) {
             *there = value;
             return Ok(());
         }
-        self.entries.insert(Vec::from_slice(alloc, path)?, value)?;
-        Ok(())
+        self.insert(alloc, p, value)
     }
 }
