@@ -19,6 +19,7 @@ pub mod NamedPieces
 pub mod AddedLines
 pub mod PushedPending
 mod FileCases
+mod PathCases
 pub mod HeldPieces
 pub mod PlainLists
 pub mod Settled

@@ -1,9 +1,9 @@
--- The paths of a script's lines: which they are, their order, and their places.
+-- The paths of a script's lines: which they are, their order, and their places; and the gfids of the paths, by line.
 use Rattle.std.proofs.lemmas.List.Elements.{Contains-push_cases}
 use Rattle.std.specs.Ordering.{ordering_reverse}
 use Rattle.std.specs.List.Sorted.{IsStrictlySortedBy}
 use Rattle.fs_types.proofs.Common.{◌≡◌, ℕ, zero, suc, ◌+◌, ◌-◌, ◌<◌, ◌≤◌, Bool, true, false, cond, ltb, not, List, [], ◌∷◌, ◌++◌}
-use Rattle.fs_types.proofs.Common.{length, take, get_or, position, Option, Some, None, Contains, Vec, nat_eq, refl, sym, ap, subst, ◌∙◌}
+use Rattle.fs_types.proofs.Common.{length, map, take, get_or, position, Option, Some, None, Contains, Vec, nat_eq, refl, sym, ap, subst, ◌∙◌}
 use Rattle.fs_types.proofs.Common.{arith, true≢false, inl, inr, fold, if◌then◌else◌, ◌⊎◌, ◌||◌, AllByRecursion, slice_get}
 use Rattle.fs_types.proofs.Common.{list_any, prefix_len, IsDistinct, IsSorted, IsPermutation, bytes_eq, IsTotalOrder}
 use Rattle.fs_types.proofs.Common.{unsigned_ties, slice_cmp, pointwise, lists_ties, nat_cmp, is_lt, is_eq, eq_by_cmp}
@@ -11,9 +11,15 @@ use Rattle.fs_types.proofs.Common.{Ordering, Less, Equal, Greater, nat_list_cmp_
 use Rattle.fs_types.proofs.Common.{sorted_from_all_adjacent, apart_from_distinct, sorted_head, sorted_tail, map_push, length-map}
 use Rattle.fs_types.proofs.Common.{Contains-append_left, IsPermutation-map, IsPermutation-sym, Contains-permutation}
 use Rattle.fs_types.proofs.Common.{bytes_eq-Decides}
+use Rattle.fs_types.proofs.Common.{IfSome}
+use Rattle.std.proofs.lemmas.Option.{slice_get-map}
+use Rattle.std.specs.Option.{option_map}
+use Rattle.placement.specs.Placement.{gfid}
 use Rattle.indexmap.specs.IndexSet.{insert_key}
 use Rattle.fs_script.specs.Vocabulary.{Job, Names, operation, op_at, AreRising, ArePaths}
+use Rattle.fs_script.proofs.CallerLemmas.{slice_get-position}
 use Rattle.core_machine.specs.Vocabulary.{Line, OpLine, texts, with_path, with_op, with_path_of, paths_of}
+use Rattle.core_machine.specs.Vocabulary.{AreGfids, gfid_in, gfids_of}
 use Rattle.indexmap.proofs.CallerLemmas.{Contains-insert_key}
 
 -- ---- vectors, and their bytes
@@ -55,6 +61,22 @@ module _ {A : Type 0} where
       ap (λ n. cond (ltb n (length (texts vs))) (Some n) None) (prefix_len-texts p vs)
       ∙ ap (λ m. cond (ltb (prefix_len (λ v. not (pointwise nat_eq p v.items)) vs) m)
       (Some (prefix_len (λ v. not (pointwise nat_eq p v.items)) vs)) None) (length-map vs (λ v. v.items)))
+
+  -- at the place of the bytes, among the values of the texts, stands that of the bytes
+  pub value-there : {X : Type 0} (f : List ℕ → X) (p : List ℕ) (vs : List (Vec ℕ A))
+      → IfSome (position (λ v. pointwise nat_eq p v.items) vs) (λ i. slice_get (map f (texts vs)) i ≡ Some (f p))
+  value-there f p vs = subst (λ r. IfSome r (λ i. slice_get (map f (texts vs)) i ≡ Some (f p))) (sym (position-texts p vs))
+      (by (position (λ q. bytes_eq q p) (texts vs)) (slice_get-position (texts vs) p))
+    where
+      by : (r : Option ℕ) → IfSome r (λ i. slice_get (texts vs) i ≡ Some p) → IfSome r (λ i. slice_get (map f (texts vs)) i ≡ Some (f p))
+      by None there = tt
+      by (Some i) there = slice_get-map f (texts vs) i ∙ ap (option_map f) there
+
+  -- bytes that bring a path put their value behind those of the texts
+  pub values-with_path : {X : Type 0} (f : List ℕ → X) (vs : List (Vec ℕ A)) (p : List ℕ) → list_any (λ v. bytes_eq p v.items) vs ≡ false
+      → map f (with_path (texts vs) p) ≡ map f (texts vs) ++ f p ∷ []
+  values-with_path f vs p absent = ap (λ b. map f (if b then texts vs else texts vs ++ p ∷ [])) (list_any-texts p vs ∙ absent)
+      ∙ map_push f (texts vs) p
 
   -- what is below each vector's bytes is below each text
   above_texts : (p : List ℕ) (vs : List (Vec ℕ A)) → AllByRecursion (λ v. slice_cmp nat_cmp p v.items ≡ Less) vs
@@ -219,8 +241,44 @@ ArePaths-from_sort s vs ws are moved rising =
           (Contains-from_op_at s named.line named.op named.is)));
     }
 
+-- ---- the gfids of lines
+-- one line more brings that of its path
+gfids_of-next : (ls : List Line) (k : ℕ) → k < length ls
+    → gfids_of (take (suc k) ls) ≡ gfids_of (take k ls) ++ gfid_in (operation (slice_get ls k)) ∷ []
+gfids_of-next [] k within = absurd (omega arith)
+gfids_of-next (l ∷ ls) zero within = refl
+gfids_of-next (l ∷ ls) (suc k) within = ap (λ gs. gfid_in (operation (Some l)) ∷ gs) (gfids_of-next ls k (omega arith))
+
+-- the gfids of the lines before n, and of line n
+pub gfids_of-more : (s : Job) (n : ℕ) → 2 ≤ n → n < length s.lines + 2
+    → gfids_of (take (n + 1 - 2) s.lines) ≡ gfids_of (take (n - 2) s.lines) ++ gfid_in (op_at s n) ∷ []
+gfids_of-more s zero past within = absurd (omega arith)
+gfids_of-more s (suc zero) past within = absurd (omega arith)
+gfids_of-more s (suc (suc k)) past within =
+    let next : suc (suc k) + 1 - 2 ≡ suc k = omega arith in
+    let here : suc (suc k) - 2 ≡ k = omega arith in
+    ap (λ i. gfids_of (take i s.lines)) next ∙ gfids_of-next s.lines k (omega arith)
+    ∙ sym (ap (λ i. gfids_of (take i s.lines) ++ gfid_in (operation (slice_get s.lines k)) ∷ []) here)
+
+-- at the place of an operation stands that of its path
+slice_get-gfids_of : (ls : List Line) (k : ℕ) (o : OpLine) → operation (slice_get ls k) ≡ Some o
+    → slice_get (gfids_of ls) k ≡ Some (gfid o.path)
+slice_get-gfids_of [] k o is = absurd cc
+slice_get-gfids_of (l ∷ ls) zero o is = ap (λ x. Some (gfid_in x)) is
+slice_get-gfids_of (l ∷ ls) (suc k) o is = slice_get-gfids_of ls k o is
+
+-- the gfids of a job's lines are kept by line
+pub AreGfids-from_lines : (s : Job) (gfids : List ℕ) → gfids ≡ gfids_of s.lines → AreGfids s gfids
+AreGfids-from_lines s gfids are = subst (AreGfids s) (sym are) (record { each = each }) where
+  each : (n : ℕ) (o : OpLine) → op_at s n ≡ Some o → slice_get (gfids_of s.lines) (n - 2) ≡ Some (gfid o.path)
+  each zero o is = absurd cc
+  each (suc zero) o is = absurd cc
+  each (suc (suc k)) o is =
+      let here : suc (suc k) - 2 ≡ k = omega arith in
+      ap (slice_get (gfids_of s.lines)) here ∙ slice_get-gfids_of s.lines k o is
+
 pub ruleset added_paths = (with_path-there)
 
-pub ruleset named_paths = (paths_of-more)
+pub ruleset named_paths = (paths_of-more, gfids_of-more)
 
-pub ruleset sorted_paths = (AreRising-from_sort, ArePaths-from_sort)
+pub ruleset sorted_paths = (AreRising-from_sort, ArePaths-from_sort, AreGfids-from_lines)

@@ -1,6 +1,7 @@
 -- What a run keeps at every moment, and the moment that it stands for.
 use Rattle.std.specs.Prelude.{◌≡◌, ℕ, ◌≤◌, List, [], false, length, vec_capacity}
 use Rattle.core_machine.specs.declared.run.Run.{Run}
+use Rattle.core_machine.specs.Gfids.{AreGfids}
 use Rattle.core_machine.specs.Kept.{PathState}
 use Rattle.core_machine.specs.LegalSoFar.{IsLegalMoment}
 use Rattle.core_machine.specs.Moment.{Moment}
@@ -18,6 +19,7 @@ moment r = moment_of r.script.now r.paths (states r) r.answers r.turns r.tasks.i
 
 -- until memory runs out all that is kept holds, and stands for a moment of a legal run
 pub record IsRun {D : Type 0} (r : Run D) : Type 0 where
+  pub gfids : AreGfids r.script.now r.gfids
   pub kept : AreKept r.script.now r.books.items r.clients.items
   pub told : r.spent ≡ false → AreToldBut r.script.now r.changing.items r.board r.books.items
   pub phases : IsInPhase r.turns

@@ -3,6 +3,7 @@ pub mod PendingWrites
 pub mod BookFiles
 pub mod ReadRuns
 pub mod PathTable
+pub mod Gfids
 pub mod Doing
 pub mod Moment
 pub mod EventsLeft

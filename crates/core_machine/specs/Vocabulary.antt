@@ -19,6 +19,7 @@ pub use Rattle.core_machine.specs.Follows.{EventFollows, EventKept, EventSound, 
 pub use Rattle.core_machine.specs.Follows.{IsWhole, KeepsAll, KeptStand, Knows, KnowsLookedUp}
 pub use Rattle.core_machine.specs.Follows.{HasAttr, LookedUpWithin, MayBeIn, attr_seen, free_in, kept_event}
 pub use Rattle.core_machine.specs.BookFiles.{IsFile, marks_of_file}
+pub use Rattle.core_machine.specs.Gfids.{AreGfids, gfid_in, gfids_of}
 pub use Rattle.core_machine.specs.HoldsKept.{holds_kept, keeps}
 pub use Rattle.core_machine.specs.PendingWrites.{ArePending, IsNonePending}
 pub use Rattle.core_machine.specs.Logs.{HoldsStand, IsHeldIn, IsInMemory, SameFrames, piece_in, pieces_in, pieces_of, slot_in, slot_of, stored_part}

@@ -10,6 +10,7 @@ ghost use Rattle.core_machine.specs.Books.{ChangesPath, path_at};
 ghost use Rattle.core_machine.specs.Core.{IsRun, moment, states};
 ghost use Rattle.core_machine.specs.EventsLeft.{events_left};
 ghost use Rattle.core_machine.specs.Follows.{FollowsAt, IsSoundAt};
+ghost use Rattle.core_machine.specs.Gfids.{AreGfids};
 ghost use Rattle.core_machine.specs.Kept.{noted_now};
 ghost use Rattle.core_machine.specs.Logs.{device_state};
 ghost use Rattle.core_machine.specs.Moment.{IsFirst, ready};
@@ -25,14 +26,14 @@ use crate::books::{Book, new_books};
 use crate::client::{Client, fresh_clients};
 use crate::event;
 use crate::logs::new_logs;
-use crate::path_table::PathTable;
+use crate::path_table::{Gfids, PathTable, paths_and_gfids};
 use crate::task::{Task, idle_tasks};
 use crate::turns::Turns;
 use client_files::Board;
 use fs_dev::SpillDev;
 use fs_script::{Line, OpLine, Script};
-use fs_types::{Answer, Answers, LineNo, Path, Rank, Want};
-use placement::{gfid_of, owner_of};
+use fs_types::{Answer, Answers, LineNo, Rank, Want};
+use placement::owner_of;
 pub use report::{census, count, devices, file, journal};
 use slot_plain::PlainLog;
 use std::alloc::Global;
@@ -43,6 +44,8 @@ pub struct Run<'s, D: SpillDev + Drop> {
     pub alloc: Global,
     pub script: &'s Script,
     pub paths: PathTable,
+    /// The gfid of the path of each line.
+    pub gfids: Gfids,
     /// What each server has of the paths that it owns.
     pub books: Vec<Book>,
     /// What all clients were told of paths.
@@ -88,7 +91,7 @@ pub fn first_run<'s, D: SpillDev + Drop>(
         ≡ map (λ d. device_state (D.size d) (D.cells d) (D.faults d)) devices.items) }
 {
     let shape = s.shape();
-    let paths = PathTable::of_script(alloc, s)?;
+    let (paths, gfids) = paths_and_gfids(alloc, s)?;
     let books = new_books(alloc, shape.servers)?;
     let board = Board::new(alloc)?;
     let clients = fresh_clients(alloc, shape.clients, shape.chunk)?;
@@ -101,6 +104,7 @@ pub fn first_run<'s, D: SpillDev + Drop>(
         alloc,
         script: s,
         paths,
+        gfids,
         books,
         board,
         changing: Vec::new(alloc),
@@ -119,6 +123,7 @@ pub fn first_run<'s, D: SpillDev + Drop>(
 fn event_on_path<D: SpillDev + Drop>(
     alloc: Global,
     s: &Script,
+    gfids: &Gfids,
     n: LineNo,
     o: &OpLine,
     books: &mut [Book],
@@ -127,6 +132,7 @@ fn event_on_path<D: SpillDev + Drop>(
     tasks: &mut [Task],
     logs: &mut [PlainLog<D>],
 ) -> Result<Option<Answer>, Want>
+    requires gfids { AreGfids s.now gfids.now }
     requires line { op_at s.now n ≡ Some o.now }
     requires kept { AreKept s.now books.old clients.old }
     requires sound { (lines : List ℕ) × IsSoundAt o.now.path s.now n o.now.op o.now.rank
@@ -139,7 +145,7 @@ fn event_on_path<D: SpillDev + Drop>(
         books.old books.new board.now clients.old clients.new tasks.old tasks.new
         logs.old logs.new lines a) }
 {
-    let gfid = gfid_of(&o.path);
+    let gfid = gfids.of_line(n);
     let owner = owner_of(gfid, s.shape().servers);
     let book = &mut books[owner.0 as usize];
     let r = o.rank;
@@ -192,6 +198,7 @@ fn event_of_line<D: SpillDev + Drop>(run: &mut Run<'_, D>, r: Rank) -> Result<bo
     let answer = event_on_path(
         run.alloc,
         run.script,
+        &run.gfids,
         n,
         o,
         &mut run.books,
@@ -212,20 +219,25 @@ fn event_of_line<D: SpillDev + Drop>(run: &mut Run<'_, D>, r: Rank) -> Result<bo
     }
 }
 
-// Tells all clients of a path what its owner has.
+// Tells all clients of the path of line `n` what its owner has.
 fn tell_path(
     alloc: Global,
     s: &Script,
+    gfids: &Gfids,
+    n: LineNo,
+    o: &OpLine,
     books: &[Book],
     board: &mut Board,
-    p: &Path,
 ) -> Result<(), Want>
-    requires { length books.now ≡ s.now.shape.servers }
-    ensures { OnOk result (Changes (told_in board.old) (told_in board.new) p.now
-        (noted_now (path_at books.now p.now))) }
+    requires gfids { AreGfids s.now gfids.now }
+    requires line { op_at s.now n ≡ Some o.now }
+    requires servers { length books.now ≡ s.now.shape.servers }
+    ensures { OnOk result (Changes (told_in board.old) (told_in board.new) o.now.path
+        (noted_now (path_at books.now o.now.path))) }
 {
-    let gfid = gfid_of(p);
+    let gfid = gfids.of_line(n);
     let owner = owner_of(gfid, s.shape().servers);
+    let p = &o.path;
     let (v, attr) = books[owner.0 as usize].attr(gfid, p);
     board.set(alloc, p, v, attr)
 }
@@ -234,17 +246,19 @@ fn tell_path(
 fn tell(
     alloc: Global,
     s: &Script,
+    gfids: &Gfids,
     books: &[Book],
     board: &mut Board,
     changing: &[LineNo],
 ) -> Result<(), Want>
+    requires gfids { AreGfids s.now gfids.now }
     requires servers { length books.now ≡ s.now.shape.servers }
     requires told { AreToldBut s.now changing.now board.old books.now }
     ensures { OnOk result (AreToldBut s.now [] board.new books.now) }
 {
     for n in changing {
         if let Some(o) = operation(s, *n) {
-            tell_path(alloc, s, books, board, &o.path)?;
+            tell_path(alloc, s, gfids, *n, o, books, board)?;
         }
     }
     Ok(())
@@ -253,6 +267,7 @@ fn tell(
 // Goes on to the next line of a client, and where that begins a phase, tells all clients of the paths
 // of the lines that may have changed one since they were told. After want of memory what was told is open.
 fn go_on<D: SpillDev + Drop>(run: &mut Run<'_, D>, r: Rank) -> Result<(), Want>
+    requires gfids { AreGfids run.old.script.now run.old.gfids }
     requires kept { AreKept run.old.script.now run.old.books.items run.old.clients.items }
     requires told { AreToldBut run.old.script.now run.old.changing.items run.old.board
         run.old.books.items }
@@ -278,6 +293,7 @@ fn go_on<D: SpillDev + Drop>(run: &mut Run<'_, D>, r: Rank) -> Result<(), Want>
         tell(
             run.alloc,
             run.script,
+            &run.gfids,
             &run.books,
             &mut run.board,
             &run.changing,

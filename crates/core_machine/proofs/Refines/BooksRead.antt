@@ -22,6 +22,7 @@ module _ {D : Type 0} (r : Run D) (books : Vec (Book PlainHold) _) (size : lengt
 
   pub IsRun-same : IsRun r → IsRun (record r { books = books })
   IsRun-same run = record {
+    gfids = run.gfids;
     kept = record { servers = size ∙ run.kept.servers; ranks = run.kept.ranks; chunks = run.kept.chunks };
     told = λ going. told-same (λ q. ap noted_now (same q)) (run.told going);
     phases = run.phases;

@@ -6,7 +6,7 @@ use Rattle.fs_script.specs.Vocabulary.{Given, Job, phase, program}
 use Rattle.slot_plain.specs.Log.{Log}
 use Rattle.core_machine.specs.Vocabulary.{PathState, Places, IsInPhase, going, next_in, ready, moment_of, Holds, Task}
 use Rattle.core_machine.specs.Core.{IsRun, states}
-use Rattle.core_machine.specs.Vocabulary.{HasClients, IsLegalMoment, Moment, events_left, moment, step}
+use Rattle.core_machine.specs.Vocabulary.{AreGfids, HasClients, IsLegalMoment, Moment, events_left, moment, step}
 use Rattle.core_machine.specs.PathStates.{AreKept, AreToldBut}
 use Rattle.core_machine.specs.declared.run.Run.{Run}
 use Rattle.core_machine.proofs.Legal.EventsLeft.{events_left-falls}
@@ -54,12 +54,13 @@ module _ {D : Type 0} {old : Run D} (r : ℕ) (run : IsRun old) (may : Contains 
       (events_left-falls (record { client = r }) (run.legal [] (not_spent r run may)) may)
 
   -- and a run that kept its script, its devices and as many logs goes on, or is spent
-  pub IsRun-on : {new : Run D} → new.script ≡ old.script → new.devices ≡ old.devices → length new.logs.items ≡ length old.logs.items
+  pub IsRun-on : {new : Run D} → new.script ≡ old.script → new.gfids ≡ old.gfids → new.devices ≡ old.devices → length new.logs.items ≡ length old.logs.items
       → AreKept new.script.now new.books.items new.clients.items → IsInPhase new.turns
       → (new.spent ≡ false → AreToldBut new.script.now new.changing.items new.board new.books.items)
       → (new.spent ≡ false → Holds new.script.now new.paths (states new) new.answers new.turns new.tasks.items new.logs.items)
       → (new.spent ≡ false → moment new ≡ step (moment old) (record { client = r })) → IsRun new
-  IsRun-on {new} script devices sized kept phases told holds then = record {
+  IsRun-on {new} script gfids devices sized kept phases told holds then = record {
+    gfids = subst (λ (X : Type 0). X) (λ i. AreGfids (sym script i).now (sym gfids i)) run.gfids;
     kept = kept;
     told = told;
     phases = phases;

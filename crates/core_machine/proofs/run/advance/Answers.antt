@@ -2,7 +2,7 @@ use Rattle.fs_types.proofs.Common.{◌≡◌, ◌∙◌, ℕ, Bool, Contains, ap
 use Rattle.core_machine.specs.Core.{IsRun, moment, states}
 use Rattle.core_machine.specs.PathStates.{AreKept}
 use Rattle.core_machine.specs.Turns.{turns_then}
-use Rattle.core_machine.specs.Vocabulary.{Holds, IsInPhase, Moment, going, moment_of, ready, step}
+use Rattle.core_machine.specs.Vocabulary.{AreGfids, Holds, IsInPhase, Moment, going, moment_of, ready, step}
 use Rattle.core_machine.specs.declared.run.Run.{Run}
 use Rattle.core_machine.proofs.Refines.Goes.{IsRun-on, nearer, ready-going}
 use Rattle.core_machine.proofs.run.advance.Goals as goal
@@ -18,6 +18,10 @@ event_of_line-requires-clause-going g c =
     let r = c.args.run.now in
     (ready-going r.script.now r.paths (states r) r.answers r.tasks.items r.logs.items r.spent c.args.r c.requires.run.holds
     c.requires.run.phases c.requires.ready).1
+
+pub go_on-requires-clause-gfids : goal.go_on-requires-clause-gfids
+go_on-requires-clause-gfids g c = subst (λ (x : Run g.row.D.Denot). AreGfids x.script.now x.gfids) (sym c.event_of_line.ensures.rest)
+    c.requires.run.gfids
 
 pub go_on-requires-clause-going : goal.go_on-requires-clause-going
 go_on-requires-clause-going g c =
@@ -46,7 +50,7 @@ returns-in-Ok-false-clause-run g c =
     let then = went-on new k c.requires.run c.requires.ready (ap (λ (x : Run g.row.D.Denot). x.spent) e.rest)
     (subst (λ b. moment_then k new b ≡ step (moment c.args.run.now) (record { client = k })) c.in-Ok-false.field-0-test e.step) in
     IsRun-on c.args.r c.requires.run c.requires.ready (ap (λ (x : Run g.row.D.Denot). x.script) e.rest)
-    (ap (λ (x : Run g.row.D.Denot). x.devices) e.rest) e.sized e.kept
+    (ap (λ (x : Run g.row.D.Denot). x.gfids) e.rest) (ap (λ (x : Run g.row.D.Denot). x.devices) e.rest) e.sized e.kept
     (subst (λ (x : Run g.row.D.Denot). IsInPhase x.turns) (sym e.rest) c.requires.run.phases) (λ _. e.told)
     (λ _. subst (λ b. Holds new.script.now new.paths (states new) new.answers (turns_then b c.args.r new.turns) new.tasks.items new.logs.items)
     c.in-Ok-false.field-0-test e.holds) (λ _. then)
@@ -67,6 +71,7 @@ returns-in_default-clause-run g c =
     let mid = c.event_of_line.new.run in
     IsRun-on c.args.r c.requires.run c.requires.ready
     (ap (λ (x : Run g.row.D.Denot). x.script) f.rest ∙ ap (λ (x : Run g.row.D.Denot). x.script) e.rest)
+    (ap (λ (x : Run g.row.D.Denot). x.gfids) f.rest ∙ ap (λ (x : Run g.row.D.Denot). x.gfids) e.rest)
     (ap (λ (x : Run g.row.D.Denot). x.devices) f.rest ∙ ap (λ (x : Run g.row.D.Denot). x.devices) e.rest)
     (ap (λ (x : Run g.row.D.Denot). length x.logs.items) f.rest ∙ e.sized)
     (subst (λ (x : Run g.row.D.Denot). AreKept x.script.now x.books.items x.clients.items) (sym f.rest) e.kept) f.phases (λ _. f.told) (λ _. f.holds)

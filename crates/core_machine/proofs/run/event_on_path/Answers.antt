@@ -75,13 +75,13 @@ module _ {books : List (Book PlainHold)} {p : List ℕ} {o hash : ℕ} {book : B
       }
 
 -- the book at the place of the path's owner
-home-here : (g : Over) (c : After-index-books-owner g) → IsHome c.args.books.now c.args.o.now.path c.owner.inside.0 c.gfid_of-gfid.result
+home-here : (g : Over) (c : After-index-books-owner g) → IsHome c.args.books.now c.args.o.now.path c.owner.inside.0 c.of_line-gfid.result
     (get_or c.args.books.now c.owner.inside.0 c.index-books-owner.result)
 home-here g c =
     let servers = ap (λ s. s.servers) (sym c.shape.ensures.shape) in
     let below = c.owner_of-owner.ensures.below in
-    is-home c.args.books.now c.args.o.now.path c.shape.result.servers c.owner.inside.0 c.gfid_of-gfid.result c.index-books-owner.result
-    (c.requires.kept.servers ∙ servers) c.gfid_of-gfid.ensures (c.owner.view_is ∙ c.owner_of-owner.ensures.owner)
+    is-home c.args.books.now c.args.o.now.path c.shape.result.servers c.owner.inside.0 c.of_line-gfid.result c.index-books-owner.result
+    (c.requires.kept.servers ∙ servers) (c.of_line-gfid.ensures c.args.s.now c.args.o.now c.requires.gfids c.requires.line) (c.owner.view_is ∙ c.owner_of-owner.ensures.owner)
     (omega (arith, below, c.owner.view_is))
 
 -- the client whose line it is, and what it is in the midst of

@@ -38,14 +38,15 @@ returns g c =
     c.in_ok-books.ensures.fresh c.in_ok-board.ensures (λ r q. ap (λ xs. pending_after s (answer_at xs) r q) empty ∙ none-pending s r q) count
     c.in_ok-clients.ensures.fresh in
     let limits = job.shape.clients in
-    let first = IsFirst-first states answers c.in_ok-turns.turns tasks logs ds c.in_ok-paths.ensures sized fresh empty turns.places idle fresh_logs
+    let first = IsFirst-first states answers c.in_ok-turns.turns tasks logs ds c.in_ok-paths.ensures.paths sized fresh empty turns.places idle fresh_logs
     many in
     record {
       run = record {
+        gfids = c.in_ok-paths.ensures.gfids;
         kept = record { servers = servers; ranks = count; chunks = chunks };
         told = λ _. record { each = λ q _. c.in_ok-board.ensures q ∙ sym (ap noted_now (c.in_ok-books.ensures.fresh q)) };
         phases = turns.phase;
-        holds = λ _. Holds-first states answers c.in_ok-turns.turns tasks logs ds (CanRun-job job) c.in_ok-paths.ensures sized fresh empty
+        holds = λ _. Holds-first states answers c.in_ok-turns.turns tasks logs ds (CanRun-job job) c.in_ok-paths.ensures.paths sized fresh empty
             (omega (arith, c.in_ok-answers.ensures.1, c.lines.ensures.lines)) turns.job turns.places idle fresh_logs many (no_spill job.shape)
             (omega (arith, slots_fit s.shape job.shape)) (omega (arith, limits));
         legal = λ told _. first-legal (CanRun-job job) first told;

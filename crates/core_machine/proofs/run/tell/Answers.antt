@@ -6,6 +6,9 @@ use Rattle.core_machine.proofs.Refines.Told.{told-next, told-skip}
 use Rattle.core_machine.proofs.run.tell.Goals as goal
 use Rattle.core_machine.proofs.run.tell.Goals.{in-Some+in_ok-tell_path, in_default}
 
+pub tell_path-requires-clause-line : goal.tell_path-requires-clause-line
+tell_path-requires-clause-line c = sym c.operation.ensures ∙ ap option_copied c.in-Some.is
+
 pub loop-n-preserved : goal.loop-n-preserved
 loop-n-preserved c =
     let s = c.args.s.now in
