@@ -6,7 +6,8 @@ use Rattle.fs_script.specs.Vocabulary.{OpLine, Job, op_at, Answering, commit_in,
 use Rattle.fs_script.proofs.Jobs.{op_at-within}
 
 module _ (s : Job) (A : Answering) (p : List ℕ) where
-  commit_in-within : (n v : ℕ) (o : Option OpLine) → op_at s n ≡ o → commit_in s A p n o ≡ Some v → n < 2 + length s.lines
+  -- what is committed is a line of the job
+  pub commit_in-within : (n v : ℕ) (o : Option OpLine) → op_at s n ≡ o → commit_in s A p n o ≡ Some v → n < 2 + length s.lines
   commit_in-within n v None is commits = absurd (none-some v commits)
   commit_in-within n v (Some o) is commits = (op_at-within s n o is).1
 

@@ -1,11 +1,16 @@
 -- A path with two lives, worked out by hand: its file is cut, taken away with a write pending, and made again. What is pending,
--- the file at each version, what the lines may print, and journals in which one stands where there is no file, or already one.
-use Rattle.fs_types.proofs.Common.{◌≡◌, ℕ, zero, suc, ◌<◌, ◌++◌, List, [], ◌∷◌, slice_index_or, Some, None, true, false, refl, sym, true≢false}
-use Rattle.fs_types.proofs.Common.{arith, codes, list_all, nat_le, leb-true, and_parts, AllByRecursion}
+-- the file at each version, what the lines may print, the whole journal, which is legal, and journals that aren't: in which a line
+-- stands where there is no file, or already one, is left out, stands twice, or stands before an earlier one of its client.
+use Rattle.fs_types.proofs.Common.{◌≡◌, ℕ, zero, suc, ◌+◌, ◌<◌, ◌++◌, ◌==◌, List, [], ◌∷◌, slice_get, slice_index_or, Some, None, Bool}
+use Rattle.fs_types.proofs.Common.{true, false, not, is_some, filter, range_with_len, Contains, All, refl, sym, ap, ◌∙◌, subst₂, true≢false}
+use Rattle.fs_types.proofs.Common.{arith, codes, list_all, nat_le, leb-true, and_parts, AllByRecursion, ⊤, none-some, same_Some}
+use Rattle.fs_types.proofs.Common.{All-contains, AllPass-from_list_all}
 use Rattle.fs_script.specs.Vocabulary.{Answer, answer_at, OpLine, Text, Job, op_at, File, Answering, pending_at, is_enabled, state, front}
-use Rattle.fs_script.specs.Vocabulary.{IsNoLater, Fits, committed, IsLegalJournal, enabled_in}
+use Rattle.fs_script.specs.Vocabulary.{IsNoLater, Fits, committed, IsLegalEntry, IsLegalJournal, enabled_in}
 use Rattle.fs_script.proofs.FiveLines.{path_a, on_a}
 use Rattle.fs_script.proofs.Fronts.{phase-rises}
+use Rattle.fs_script.proofs.JournalLines.{commit_in-within}
+use Rattle.fs_script.proofs.PlainLists.{passing-rise, Contains-passing}
 use Rattle.fs_script.proofs.TwoPhases.{other_on_a}
 use Rattle.fs_types.specs.declared.answer.Answer.TheVariants as answers
 use Rattle.fs_types.specs.declared.answer.Body.TheVariants as bodies
@@ -188,3 +193,103 @@ unlink_left_out_refused h = let there = h.whole 11 2 refl in no_place there.0 th
     no_place : (k : ℕ) → k < 1 → slice_index_or {A = ℕ} (2 ∷ []) k 11 ≡ 11 → ⊥
     no_place zero below same = omega arith
     no_place (suc k) below same = omega arith
+
+-- ---- the whole journal is legal
+
+-- line n is committed with the version that place k gives it, and is enabled there
+abbrev StandsAt : Answering → List ℕ → ℕ → ℕ → Type 0
+StandsAt A J k n = (committed two_lives A path_a n ≡ Some (suc k))
+    × (enabled_in (op_at two_lives n) (λ op. is_enabled op (state two_lives A J k)) ≡ true)
+
+-- so does each of these lines, the first of which is at place k
+abbrev AllStand : Answering → List ℕ → ℕ → List ℕ → Type 0
+AllStand A J k [] = ⊤
+AllStand A J k (n ∷ ns) = StandsAt A J k n × AllStand A J (suc k) ns
+
+-- creates, syncs, truncs and the unlink
+lives_all_stand : AllStand two_lives_answers two_lives_journal 0 two_lives_journal
+lives_all_stand = ((refl, refl), ((refl, refl), ((refl, refl), ((refl, refl), ((refl, refl), ((refl, refl), ((refl, refl), tt)))))))
+
+-- each of them at its own place
+one_stands : (A : Answering) (J : List ℕ) (k i j n : ℕ) (ns : List ℕ) → AllStand A J k ns → slice_get ns i ≡ Some n
+    → k + i ≡ j → StandsAt A J j n
+one_stands A J k i j n [] all at is = absurd (none-some n at)
+one_stands A J k zero j n (m ∷ ns) all at is =
+    let here : k ≡ j = omega arith in
+    subst₂ (λ l o. StandsAt A J l o) here (same_Some m n at) all.0
+one_stands A J k (suc i) j n (m ∷ ns) all at is = one_stands A J (suc k) i j n ns all.1 at (omega arith)
+
+lives_stand : (k n : ℕ) → slice_get two_lives_journal k ≡ Some n → StandsAt two_lives_answers two_lives_journal k n
+lives_stand k n at = one_stands two_lives_answers two_lives_journal 0 k k n two_lives_journal lives_all_stand at (omega arith)
+
+abbrev is_committed : ℕ → Bool
+is_committed n = is_some (committed two_lives two_lives_answers path_a n)
+
+-- the journal is the committing lines of both lives, in the order of the script
+lives_in_order : filter is_committed (range_with_len 2 14) ≡ two_lives_journal
+lives_in_order = refl
+
+lives_rise : (i k m n : ℕ) → i < k → slice_get two_lives_journal i ≡ Some m → slice_get two_lives_journal k ≡ Some n → m < n
+lives_rise = passing-rise is_committed 2 14
+
+lives_entries : (k n : ℕ) → slice_get two_lives_journal k ≡ Some n
+    → IsLegalEntry two_lives two_lives_answers path_a two_lives_journal k n
+lives_entries k n at = record {
+  committed = (lives_stand k n at).0;
+  once = λ i there. omega (arith, same_Some (suc i) (suc k) (sym (lives_stand i n there).0 ∙ (lives_stand k n at).0));
+  rising = λ i m before there _. lives_rise i k m n before there at;
+  phases = λ i m before there. phase-rises two_lives m n (let less = lives_rise i k m n before there at in omega arith);
+  enabled = (lives_stand k n at).1;
+}
+
+-- no line that commits is missing
+lives_whole : (n v : ℕ) → committed two_lives two_lives_answers path_a n ≡ Some v → Contains two_lives_journal n
+lives_whole zero v is = absurd (none-some v is)
+lives_whole (suc zero) v is = absurd (none-some v is)
+lives_whole (suc (suc n)) v is =
+    let within = commit_in-within two_lives two_lives_answers path_a (suc (suc n)) v (op_at two_lives (suc (suc n))) refl is in
+    Contains-passing is_committed 2 14 (suc (suc n)) (ap is_some is) (omega arith) (omega arith)
+
+-- all of both lives, in one journal
+two_lives_legal : IsLegalJournal two_lives two_lives_answers path_a two_lives_journal
+two_lives_legal = record { entries = lives_entries; whole = lives_whole }
+
+-- ---- journals of both lives that aren't legal
+
+abbrev without_second_create : List ℕ
+without_second_create = 2 ∷ 4 ∷ 7 ∷ 8 ∷ 11 ∷ 15 ∷ []
+
+none_is_the_second_create : All (λ m. not (m == 13) ≡ true) without_second_create
+none_is_the_second_create = AllPass-from_list_all (λ m. not (m == 13)) without_second_create refl
+
+-- without the second life's create
+second_create_left_out_refused : IsLegalJournal two_lives two_lives_answers path_a without_second_create → ⊥
+second_create_left_out_refused h =
+    true≢false (sym (All-contains (λ m. not (m == 13) ≡ true) without_second_create 13 none_is_the_second_create (h.whole 13 6 refl)))
+
+-- nothing was made after the unlink, as the second life's create found the first life's file: the sync finds no file
+sync_without_second_create_refused : IsLegalJournal two_lives
+    (answer_at ((2, answers.Done 1) ∷ (11, answers.Done 2) ∷ (13, answers.Exists 1) ∷ (14, answers.Wrote 1) ∷ (15, answers.Done 3) ∷ []))
+    path_a (2 ∷ 11 ∷ 15 ∷ []) → ⊥
+sync_without_second_create_refused h = true≢false (sym (h.entries 2 15 refl).enabled)
+
+-- the first life's create in place of the second's
+first_create_again_refused : IsLegalJournal two_lives two_lives_answers path_a (2 ∷ 4 ∷ 7 ∷ 8 ∷ 11 ∷ 2 ∷ 15 ∷ []) → ⊥
+first_create_again_refused h = omega (arith, (h.entries 0 2 refl).once 5 refl)
+
+-- the first life's sync and trunc, which are of one client, the other way round, with the answers of that order
+abbrev swapped_answers : Answering
+swapped_answers = answer_at (
+    (2, answers.Done 1) ∷ (3, answers.Wrote 1) ∷ (4, answers.Done 3) ∷ (6, answers.Wrote 1) ∷ (7, answers.Done 2)
+    ∷ (8, answers.Done 4) ∷ (11, answers.Done 5) ∷ (13, answers.Done 6) ∷ (14, answers.Wrote 1) ∷ (15, answers.Done 7) ∷ [])
+
+abbrev swapped_journal : List ℕ
+swapped_journal = 2 ∷ 7 ∷ 4 ∷ 8 ∷ 11 ∷ 13 ∷ 15 ∷ []
+
+-- each line stands at its version, and is enabled there
+swapped_all_stand : AllStand swapped_answers swapped_journal 0 swapped_journal
+swapped_all_stand = ((refl, refl), ((refl, refl), ((refl, refl), ((refl, refl), ((refl, refl), ((refl, refl), ((refl, refl), tt)))))))
+
+-- but the trunc is a later line of its client than the sync
+trunc_before_earlier_sync_refused : IsLegalJournal two_lives swapped_answers path_a swapped_journal → ⊥
+trunc_before_earlier_sync_refused h = omega (arith, (h.entries 2 4 refl).rising 1 7 (omega arith) refl refl)
