@@ -12,8 +12,6 @@ use Rattle.fs_types.proofs.Common.{sorted_from_all_adjacent, apart_from_distinct
 use Rattle.fs_types.proofs.Common.{Contains-append_left, IsPermutation-map, IsPermutation-sym, Contains-permutation}
 use Rattle.fs_types.proofs.Common.{bytes_eq-Decides}
 use Rattle.fs_types.proofs.Common.{IfSome}
-use Rattle.std.proofs.lemmas.Option.{slice_get-map}
-use Rattle.std.specs.Option.{option_map}
 use Rattle.placement.specs.Placement.{gfid}
 use Rattle.indexmap.specs.IndexSet.{insert_key}
 use Rattle.fs_script.specs.Vocabulary.{Job, Names, operation, op_at, AreRising, ArePaths}
@@ -62,15 +60,11 @@ module _ {A : Type 0} where
       ∙ ap (λ m. cond (ltb (prefix_len (λ v. not (pointwise nat_eq p v.items)) vs) m)
       (Some (prefix_len (λ v. not (pointwise nat_eq p v.items)) vs)) None) (length-map vs (λ v. v.items)))
 
-  -- at the place of the bytes, among the values of the texts, stands that of the bytes
-  pub value-there : {X : Type 0} (f : List ℕ → X) (p : List ℕ) (vs : List (Vec ℕ A))
-      → IfSome (position (λ v. pointwise nat_eq p v.items) vs) (λ i. slice_get (map f (texts vs)) i ≡ Some (f p))
-  value-there f p vs = subst (λ r. IfSome r (λ i. slice_get (map f (texts vs)) i ≡ Some (f p))) (sym (position-texts p vs))
-      (by (position (λ q. bytes_eq q p) (texts vs)) (slice_get-position (texts vs) p))
-    where
-      by : (r : Option ℕ) → IfSome r (λ i. slice_get (texts vs) i ≡ Some p) → IfSome r (λ i. slice_get (map f (texts vs)) i ≡ Some (f p))
-      by None there = tt
-      by (Some i) there = slice_get-map f (texts vs) i ∙ ap (option_map f) there
+  -- where bytes are found among the vectors, the texts have them
+  pub path-there : (p : List ℕ) (vs : List (Vec ℕ A))
+      → IfSome (position (λ v. pointwise nat_eq p v.items) vs) (λ i. slice_get (texts vs) i ≡ Some p)
+  path-there p vs =
+      subst (λ r. IfSome r (λ i. slice_get (texts vs) i ≡ Some p)) (sym (position-texts p vs)) (slice_get-position (texts vs) p)
 
   -- bytes that bring a path put their value behind those of the texts
   pub values-with_path : {X : Type 0} (f : List ℕ → X) (vs : List (Vec ℕ A)) (p : List ℕ) → list_any (λ v. bytes_eq p v.items) vs ≡ false

@@ -1,6 +1,7 @@
 //! The paths that a script names, each found by a look-up, and the gfids of the paths by line.
 
-ghost use Rattle.std.specs.Prelude.{◌≡◌, ◌<◌, Some, length, map, position, slice_get, Contains, IfSome, IfNone, IfOk, OnOk};
+ghost use Rattle.std.specs.Prelude.{◌≡◌, ◌<◌, Some, length, map, position, slice_get, Contains, is_some, IfSome, IfNone, IfOk, OnOk};
+ghost use Rattle.std.specs.List.{list_any};
 ghost use Rattle.std.specs.Str.{bytes_eq};
 ghost use Rattle.fs_script.specs.Job.{Job, op_at};
 ghost use Rattle.fs_script.specs.Report.{ArePaths, AreRising};
@@ -49,13 +50,28 @@ impl Model for Gfids {
     ghost view = { λ g. g.by_line.items };
 }
 
+// The place of a path, if it is there. It may well be that of the line before, which stands at the
+// place `last`, so it is compared with that before it is looked up.
+fn place_of(paths: &IndexSet<Vec<u8>>, last: usize, p: &[u8]) -> Option<usize>
+    ensures there { IfSome result (λ i. slice_get (texts paths.now.keys) i ≡ Some p.now) }
+    ensures found { is_some result ≡ list_any (λ v. bytes_eq p.now v.items) paths.now.keys }
+{
+    if let Some(before) = paths.get_index(last) {
+        if p == before.as_slice() {
+            return Some(last);
+        }
+    }
+    paths.get_index_of(p)
+}
+
 // Adds a path, unless it is there, and gives its gfid, which is computed for a new path alone:
-// `known` has those of the paths that are there, in their order.
+// `known` has those of the paths that are there, in their order. Its place is left in `last`.
 #[tactic(auto, using(crate::proofs::PathTables::added_paths))]
 fn add_path(
     alloc: Global,
     paths: &mut IndexSet<Vec<u8>>,
     known: &mut Vec<u64>,
+    last: &mut usize,
     p: &[u8],
 ) -> Result<u64, Want>
     requires { known.old.items ≡ map gfid (texts paths.old.keys) }
@@ -63,9 +79,11 @@ fn add_path(
     ensures known { OnOk result (known.new.items ≡ map gfid (texts paths.new.keys)) }
     ensures gfid { IfOk result (λ g. g ≡ gfid p.now) }
 {
-    if let Some(i) = paths.get_index_of(p) {
+    if let Some(i) = place_of(paths, *last, p) {
+        *last = i;
         return Ok(known[i]);
     }
+    *last = known.len();
     let number = gfid_of_bytes(p);
     paths.insert(Vec::from_slice(alloc, p)?)?;
     known.push(number)?;
@@ -79,6 +97,7 @@ fn add_path_of_line(
     n: LineNo,
     paths: &mut IndexSet<Vec<u8>>,
     known: &mut Vec<u64>,
+    last: &mut usize,
 ) -> Result<u64, Want>
     requires { known.old.items ≡ map gfid (texts paths.old.keys) }
     ensures paths { OnOk result (texts paths.new.keys
@@ -87,7 +106,7 @@ fn add_path_of_line(
     ensures gfid { IfOk result (λ g. g ≡ gfid_in (op_at s.now n)) }
 {
     match s.line(n) {
-        Some(Line::Op(o)) => add_path(alloc, paths, known, o.path.as_bytes()),
+        Some(Line::Op(o)) => add_path(alloc, paths, known, last, o.path.as_bytes()),
         _ => Ok(0),
     }
 }
@@ -100,9 +119,11 @@ fn paths_by_line(alloc: Global, s: &Script) -> Result<(IndexSet<Vec<u8>>, Vec<u6
 {
     let mut paths = IndexSet::new(alloc);
     let mut known = Vec::new(alloc);
+    let mut last = 0;
     let mut by_line = Vec::with_capacity(alloc, s.lines() as usize - 1)?;
     for n in 2..s.lines() + 1 {
-        by_line.push(add_path_of_line(alloc, s, LineNo(n), &mut paths, &mut known)?)?;
+        let line = LineNo(n);
+        by_line.push(add_path_of_line(alloc, s, line, &mut paths, &mut known, &mut last)?)?;
     }
     Ok((paths, by_line))
 }

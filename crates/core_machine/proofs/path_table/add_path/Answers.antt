@@ -1,17 +1,16 @@
-use Rattle.fs_types.proofs.Common.{◌≡◌, ◌∙◌, ◌++◌, ◌∷◌, [], Some, IfSome, ap, get_or, get_or_from_slice_get, is_some, map, slice_get, subst, sym}
+use Rattle.fs_types.proofs.Common.{◌∙◌, ◌++◌, ◌∷◌, [], ap, get_or, get_or_from_slice_get, is_some, map, option_map}
+use Rattle.fs_types.proofs.Common.{slice_get-map, sym}
 use Rattle.placement.specs.Placement.{gfid}
 use Rattle.core_machine.specs.Vocabulary.{texts, with_path}
-use Rattle.core_machine.proofs.PathTables.{texts-insert_key, value-there, values-with_path}
+use Rattle.core_machine.proofs.PathTables.{texts-insert_key, values-with_path}
 use Rattle.core_machine.proofs.path_table.add_path.Goals as goal
 
 pub returns-in-Some-clause-gfid : goal.returns-in-Some-clause-gfid
 returns-in-Some-clause-gfid c =
     let ps = texts c.args.paths.now.keys in
-    let p = c.args.p.now in
     c.index.ensures ∙ ap (λ ks. get_or ks c.in-Some.i c.index.result.now) c.requires
-    ∙ get_or_from_slice_get (map gfid ps) c.in-Some.i (gfid p) c.index.result.now
-    (subst (λ r. IfSome r (λ i. slice_get (map gfid ps) i ≡ Some (gfid p))) (sym c.in-Some.ensures.index)
-    (value-there gfid p c.args.paths.now.keys))
+    ∙ get_or_from_slice_get (map gfid ps) c.in-Some.i (gfid c.args.p.now) c.index.result.now
+    (slice_get-map gfid ps c.in-Some.i ∙ ap (option_map gfid) c.in-Some.ensures.there)
 
 pub returns-clause-paths : goal.returns-clause-paths
 returns-clause-paths c =
@@ -24,4 +23,4 @@ returns-clause-known c =
     c.in_ok-push.ensures.items ∙ ap (λ ks. ks ++ c.gfid_of_bytes-number.result ∷ []) c.requires
     ∙ ap (λ g. map gfid (texts keys) ++ g ∷ []) c.gfid_of_bytes-number.ensures
     ∙ sym (ap (map gfid) (returns-clause-paths c)
-    ∙ values-with_path gfid keys c.args.p.now (sym c.get_index_of.ensures.found ∙ ap is_some c.in_default.is))
+    ∙ values-with_path gfid keys c.args.p.now (sym c.place_of.ensures.found ∙ ap is_some c.in_default.is))
