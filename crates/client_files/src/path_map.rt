@@ -41,7 +41,7 @@ impl<T: Drop> PathMap<T> {
     pub fn get(&self, p: &Path) -> Option<&T>
         ensures { option_copied result ≡ entry_at self.now p.now }
     {
-        // Before the end of a job's first phase the board has nothing, and then no path is hashed.
+        // Where there is nothing yet no path is hashed.
         if self.entries.is_empty() {
             return None;
         }

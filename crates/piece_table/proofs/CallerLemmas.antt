@@ -14,6 +14,8 @@ pub use Rattle.piece_table.proofs.Lent.{IsCounted-lent, AreHeld-lent}
 pub use Rattle.piece_table.proofs.HeldAnew.{held-anew}
 -- what holds of the pieces of a push's holds holds of the pieces that its fragments name
 pub use Rattle.piece_table.proofs.Pushed.{of_named_held}
+-- each hold of a push is found by its piece, and no two of them are of one
+pub use Rattle.piece_table.proofs.Pushed.{find-All, find-own, holds_apart}
 -- the holds of a push that was put, how many of some are of one piece, and that none is found where none is
 pub use Rattle.piece_table.proofs.Entered.{AreApart, find-none, is_of}
 pub use Rattle.piece_table.proofs.PushPut.{own_holds}

@@ -21,6 +21,10 @@
 //! from there on, with the place in its piece where that begins. `rest_before` asks nothing, and
 //! `rest_from` for a fragment that may be put.
 //!
+//! **Laws.** What is put stands where it was put, and every other place has what it had; after a cut
+//! each place before it has what it had, and no place from there on has a byte. A look-up passes no
+//! byte over.
+//!
 //! ```
 //! let piece = PieceId {
 //!     line: LineNo(1),

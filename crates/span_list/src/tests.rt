@@ -308,3 +308,35 @@ fn random_puts_give_what_a_plain_array_gives(rt: HostRuntime) -> Result<(), Fail
     }
     Ok(())
 }
+
+#[test]
+fn a_fragment_has_a_rest_on_each_side_of_a_place(rt: HostRuntime) -> Result<(), Fail> {
+    let f = Frag {
+        at: 10,
+        len: 6,
+        piece: PieceId {
+            line: LineNo(3),
+            part: 0,
+        },
+        from: 2,
+    };
+    let before = |len| Some(Frag { len, ..f });
+    for (at, rest) in [
+        (10, None),
+        (11, before(1)),
+        (16, before(6)),
+        (40, before(6)),
+    ] {
+        assert_eq!(rt; rest_before(f, at), rest);
+    }
+    let behind = |at, len, from| Some(Frag { at, len, from, ..f });
+    for (at, rest) in [
+        (0, behind(10, 6, 2)),
+        (10, behind(10, 6, 2)),
+        (15, behind(15, 1, 7)),
+        (16, None),
+    ] {
+        assert_eq!(rt; rest_from(f, at), rest);
+    }
+    Ok(())
+}
