@@ -1,6 +1,6 @@
 -- The definitions at single values.
-use Rattle.fs_types.proofs.Common.{◌≡◌, ℕ, true, false, List, [], ◌∷◌, All-cons, All-nil, Option, Some, None, if◌then◌else◌, refl}
-use Rattle.fs_types.proofs.Common.{filter, none-some, take, arith, true≢false}
+use Rattle.fs_types.proofs.Common.{◌≡◌, ℕ, Bool, true, false, List, [], ◌∷◌, All-cons, All-nil, Option, Some, None, if◌then◌else◌, refl}
+use Rattle.fs_types.proofs.Common.{filter, map, none-some, take, arith, true≢false}
 use Rattle.std.proofs.Common.{lit<}
 use Rattle.fs_types.specs.Fragments.{piece_eq}
 use Rattle.fs_types.specs.Marks.{Mark}
@@ -8,9 +8,12 @@ use Rattle.fs_types.specs.Pieces.{Fragment, Piece}
 use Rattle.fs_types.specs.PlainFile.{File}
 use Rattle.fs_types.specs.declared.hold.Hold as hold
 use Rattle.fs_types.specs.declared.mem_hold.MemHold.{MemHold}
+use Rattle.owner_book.specs.declared.book_no.BookNo.TheVariants.{Exists, NoEnt, ReadOnly}
 use Rattle.piece_table.specs.HeldSpans.{AreGone, Held, pushed}
 use Rattle.owner_book.specs.Commits.{laid_over, size_after}
-use Rattle.owner_book.specs.Journals.{Entry, creation, addition, truncation, removal, deed_after, file_after}
+use Rattle.owner_book.specs.Calls.{change_refusal, create_refusal, no_file_refusal, without_file}
+use Rattle.owner_book.specs.Journals.{Deed, Entry, creation, addition, truncation, lamination, removal, can_be_done, deed_after, file_after}
+use Rattle.owner_book.specs.Kept.{BookPath, none_held}
 use Rattle.owner_book.specs.LookupLaws.{stands_in}
 use Rattle.owner_book.specs.Lookups.{IsPinOf, Pins, parts_in, pieces_named}
 use Rattle.owner_book.specs.Truncations.{beside, cut_off}
@@ -103,6 +106,11 @@ no_file_to_cut = refl
 made_again : after 9 ≡ file_with []
 made_again = refl
 
+-- ---- frozen files
+
+abbrev each_deed : List Deed
+each_deed = creation ∷ addition [] ∷ truncation [] 0 ∷ lamination [] ∷ removal ∷ []
+
 abbrev frozen_file : File (Option Mark)
 frozen_file = Some (record { cells = Some (mark 3 0) ∷ []; frozen = true })
 
@@ -111,6 +119,49 @@ frozen_file_stays = refl
 
 frozen_file_is_removed : deed_after frozen_file removal ≡ None
 frozen_file_is_removed = refl
+
+frozen_file_is_not_written : deed_after frozen_file (addition (frag 0 1 7 0 ∷ [])) ≡ frozen_file
+frozen_file_is_not_written = refl
+
+frozen_file_is_not_frozen_again : deed_after frozen_file (lamination (frag 0 1 7 0 ∷ [])) ≡ frozen_file
+frozen_file_is_not_frozen_again = refl
+
+-- a byte is put, and the file is frozen
+frozen_after_a_push : deed_after (file_with []) (lamination (frag 0 1 3 0 ∷ [])) ≡ frozen_file
+frozen_after_a_push = refl
+
+no_file_to_freeze : deed_after None (lamination (frag 0 1 3 0 ∷ [])) ≡ None
+no_file_to_freeze = refl
+
+-- a frozen file can only be removed; one that isn't can be changed, but not be made
+deeds_on_a_frozen_file : map (can_be_done frozen_file) each_deed ≡ false ∷ false ∷ false ∷ false ∷ true ∷ []
+deeds_on_a_frozen_file = refl
+
+deeds_on_a_file : map (can_be_done (file_with [])) each_deed ≡ false ∷ true ∷ true ∷ true ∷ true ∷ []
+deeds_on_a_file = refl
+
+deeds_on_no_file : map (can_be_done None) each_deed ≡ true ∷ false ∷ false ∷ false ∷ false ∷ []
+deeds_on_no_file = refl
+
+-- at a path whose journal has three lines each change of a frozen file is refused at version 3, and no removal is; of one that isn't
+-- frozen neither is; and where there is none both are
+abbrev path_with : Bool → BookPath MemHold
+path_with frozen = record { journal = 2 ∷ 4 ∷ 6 ∷ []; file = Some (record { size = 1; frozen = frozen; held = none_held }) }
+
+frozen_file_is_read_only : change_refusal (path_with true) ≡ Some (ReadOnly 3)
+frozen_file_is_read_only = refl
+
+frozen_file_may_be_removed : no_file_refusal (path_with true) ≡ None
+frozen_file_may_be_removed = refl
+
+frozen_file_may_not_be_made : create_refusal (path_with true) ≡ Some (Exists 3)
+frozen_file_may_not_be_made = refl
+
+other_file_may_be_changed : change_refusal (path_with false) ≡ None
+other_file_may_be_changed = refl
+
+no_file_may_be_changed : change_refusal (without_file 7 (path_with true)) ≡ Some (NoEnt 4)
+no_file_may_be_changed = refl
 
 -- where there is no file, nothing is put
 no_file : file_after (record { line = 4; deed = addition (frag 0 2 3 0 ∷ []) } ∷ []) ≡ None
@@ -158,7 +209,7 @@ hold_of_what_is_left = refl
 no_hold_of_what_is_gone : (cut_off 6 kept).hold_of (piece 4) ≡ None
 no_hold_of_what_is_gone = refl
 
--- two bytes of line 9 behind the others
+-- two bytes of line 9, behind the others
 abbrev behind : Held MemHold
 behind = pushed (λ h. h.piece) (frag 20 2 9 0 ∷ []) (hold_with 9 None ∷ [])
 

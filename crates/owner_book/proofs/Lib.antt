@@ -9,6 +9,7 @@ pub mod Pinned
 pub mod Named
 pub mod FoundHolds
 pub mod Lent
+pub mod BookHolds
 pub mod HeldAnew
 pub mod CallerLemmas
 mod Cases

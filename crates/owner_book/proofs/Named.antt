@@ -12,7 +12,7 @@ use Rattle.fs_types.specs.Fragments.{end_of, piece_eq}
 use Rattle.fs_types.specs.Pieces.{Fragment, Piece}
 use Rattle.fs_types.specs.declared.hold.Hold as hold
 use Rattle.span_list.specs.Spans.{AreSpans, IsSpan, cut_fragments, rest_from}
-use Rattle.span_list.proofs.CallerLemmas.{AllPairs-append, AllPairs-nil, AllPairs-one, rests_before-ended}
+use Rattle.span_list.proofs.CallerLemmas.{AllPairs-append, AllPairs-nil, AllPairs-one, rests_before-ended, rests_from-begun}
 use Rattle.piece_table.specs.HeldSpans.{AreHeld, Held, is_named}
 use Rattle.piece_table.proofs.CallerLemmas.{piece_eq-comm, piece_eq-itself, same_piece}
 use Rattle.fs_types.specs.declared.limits.TheConstants.{LONGEST_FILE}
@@ -156,6 +156,19 @@ pins-in_range met from to x holds bare spans pins =
 cut-none : (to : ℕ) (fs : List Fragment) → AreSpans fs → LONGEST_FILE ≤ to → cut_fragments to fs ≡ fs
 cut-none to fs spans behind =
     rests_before-ended to fs spans.each (All-weaker IsSpan (λ f. end_of f ≤ to) (λ f span. omega (arith, span.in_file, behind)) fs spans.each)
+
+-- all parts of a file are its fragments
+pub parts-whole : (fs : List Fragment) → AreSpans fs → parts_in 0 LONGEST_FILE fs ≡ fs
+parts-whole fs spans =
+    ap (flat_map (rest_from 0)) (cut-none LONGEST_FILE fs spans (omega arith))
+    ∙ rests_from-begun 0 fs spans.each (λ k d below. omega arith)
+
+-- each piece that fragments name has its hold
+pub pieces-all : {H : Type 0} (is_ready : H → Bool) (piece : H → Piece) (byte_count : H → ℕ) (x : Held H)
+    → AreHeld is_ready piece byte_count x → All (λ q. IsSome (x.hold_of q)) (pieces_named x.fragments)
+pieces-all is_ready piece byte_count x are =
+    subst (λ fs. All (λ q. IsSome (x.hold_of q)) (pieces_named fs)) (parts-whole x.fragments are.spans)
+    (pieces-held is_ready piece byte_count x 0 LONGEST_FILE are)
 
 parts-saturated : (from len to : ℕ) (fs : List Fragment) → AreSpans fs → to ≡ min (from + len) (2 ^ 64 - 1)
     → parts_in from to fs ≡ parts_in from (from + len) fs

@@ -4,6 +4,7 @@ use Rattle.fs_types.proofs.Common.{◌∙◌, sym, ap, subst, true≢false, Deci
 use Rattle.std.specs.Option.{OnSome}
 use Rattle.std.specs.Result.{OnErr}
 use Rattle.std.specs.Bool.{Decides}
+use Rattle.std.specs.Cmp.{IsEquivalence}
 use Rattle.std.specs.Map.{IsKeyTest, AreApart, KeepsOthers}
 use Rattle.std.proofs.lemmas.Bool.Decides.{Decides-and}
 use Rattle.indexmap.specs.IndexMap.{IndexMap, get_by, UpdatesBy}
@@ -35,6 +36,26 @@ IsKeyTest-names : (g : ℕ) (p : List ℕ) → IsKeyTest same_key (names_key g p
 IsKeyTest-names g p x y is =
     let at = (Decides-name g x.gfid p x.path.items).0 is in
     rw (at.0, at.1) refl
+
+-- so keys are told apart by an equivalence
+same_file-comm : (g h : ℕ) (p q : List ℕ) → same_file g p h q ≡ same_file h q g p
+same_file-comm g h p q = by (same_file g p h q) (same_file h q g p) refl refl where
+  by : (b c : Bool) → same_file g p h q ≡ b → same_file h q g p ≡ c → b ≡ c
+  by true true first second = refl
+  by false false first second = refl
+  by true false first second =
+      let names = (Decides-name g h p q).0 first in
+      absurd (true≢false (sym ((Decides-name h g q p).1 (sym names.0, sym names.1)) ∙ second))
+  by false true first second =
+      let names = (Decides-name h g q p).0 second in
+      absurd (true≢false (sym ((Decides-name g h p q).1 (sym names.0, sym names.1)) ∙ first))
+
+pub IsEquivalence-same_key : IsEquivalence same_key
+IsEquivalence-same_key = record {
+  refl = λ x. same_file-itself x.gfid x.path.items;
+  symm = λ x y. same_file-comm x.gfid y.gfid x.path.items y.path.items;
+  congr = λ x y z. IsKeyTest-names x.gfid x.path.items y z;
+}
 
 -- two look-ups that differ find different keys
 AreApart-names : (g h : ℕ) (p q : List ℕ) → same_file h q g p ≡ false → AreApart (names_key g p) (names_key h q)

@@ -1,6 +1,7 @@
 -- Pieces that are asked for pins one after the other, until all have been, or memory runs out at one of them.
 use Rattle.fs_types.proofs.Common.{◌≡◌, ℕ, ◌<◌, Bool, true, false, ◌||◌, not, List, [], ◌∷◌, ◌++◌, map, filter, take, drop, length, get_or}
 use Rattle.fs_types.proofs.Common.{All, All-push, Result, Ok, Err, refl, sym, ap, ◌∙◌, subst, arith, cases_Bool, inl, inr, true≢false}
+use Rattle.fs_types.proofs.Common.{Some, list_any}
 use Rattle.fs_types.proofs.Common.{append-nil, cond-true, cond-false, false_from_ne_true, get_or-take, length-take-le, map_push, or_cases, or_left}
 use Rattle.std.proofs.lemmas.List.{get_or_default, take-append-drop}
 use Rattle.std.proofs.lemmas.List.Elements.{filter-append}
@@ -15,7 +16,9 @@ use Rattle.fs_types.specs.Room.{is_at_most}
 use Rattle.fs_types.specs.declared.hold.Hold as hold
 use Rattle.piece_table.specs.HeldSpans.{Held}
 use Rattle.piece_table.proofs.CallerLemmas.{piece_eq-comm, piece_eq-itself, same_piece}
-use Rattle.owner_book.specs.Lookups.{Asks, AsksOne, HoldsBecome, IsAsked, IsPinOf, MayAsk, MayBeAsked, Pins, is_bare, is_one_of}
+use Rattle.owner_book.specs.Lookups.{ArePinned, Asks, AsksFor, AsksOne, HoldsBecome, IsAskedFor, IsPinOf, IsPinWith, IsRefused}
+use Rattle.owner_book.specs.Lookups.{MayAskFor, MayBeAskedFor, Pins, is_bare, is_one_of, lacks_room}
+use Rattle.owner_book.proofs.Pins.{lowered-none}
 
 -- what is one of a list of one piece is that piece
 the-one : (p q : Piece) → is_one_of (p ∷ []) q ≡ true → q ≡ p
@@ -80,16 +83,55 @@ module _ {H : Type 0} where
     others = λ q is. became.others q (false_from_ne_true (is_one_of ps q) (λ one. true≢false (sym (within q one) ∙ is)));
   }
 
+  -- and in a weaker way
+  pub becomes-weaker : (R S : H → H → Type 0) → ((g h : H) → R g h → S g h) → (ps : List Piece) (a b : Held H) → HoldsBecome R ps a b
+      → HoldsBecome S ps a b
+  becomes-weaker R S weaker ps a b became = record {
+    fragments = became.fragments;
+    became = λ q h is was. let then = became.became q h is was in (then.0, then.1, weaker h then.0 then.2);
+    others = became.others;
+  }
+
+module _ {H : Type 0} (met : hold.Ghosts H) (given : ℕ) where
+  -- what was asked for a pin, and what gave none, may have been asked
+  asked-may_be : (g h : H) → IsAskedFor met given g h → MayBeAskedFor met given g h
+  asked-may_be g h asked = inr (record { like = asked.like; room = inr asked.room })
+
+  pub refused-may_be : (g h : H) → IsRefused met g h → MayBeAskedFor met given g h
+  refused-may_be g h refused = inr (record { like = refused.like; room = inl refused.room })
+
+  pub asks-may : (ps : List Piece) (old new : Held H) → AsksFor met given ps old new → MayAskFor met given ps old new
+  asks-may = becomes-weaker (IsAskedFor met given) (MayBeAskedFor met given) asked-may_be
+
+  -- a piece whose hold lacks room does so by that hold
+  lacks-hold : (x : Held H) (p : Piece) (h : H) → x.hold_of p ≡ Some h → lacks_room met given x p ≡ is_at_most (met.room h) given
+  lacks-hold x p h was = ap (λ o. option_map_or (λ k. is_at_most (met.room k) given) o false) was
+
+  -- and in another way where it has the same there
+  lacks-same : (x y : Held H) (p : Piece) → x.hold_of p ≡ y.hold_of p → lacks_room met given x p ≡ lacks_room met given y p
+  lacks-same x y p same = ap (λ o. option_map_or (λ k. is_at_most (met.room k) given) o false) same
+
+-- a hold that has no room and gave no pin was asked for one with no room
+pub asks-full : {H : Type 0} (met : hold.Ghosts H) (p : Piece) (old new : Held H) → is_bare met old p ≡ true
+    → HoldsBecome (IsRefused met) (p ∷ []) old new → Asks met (p ∷ []) old new
+asks-full met p old new full refused = record {
+  fragments = refused.fragments;
+  became = λ q h is was.
+      let then = refused.became q h is was in
+      let at_most : is_at_most (met.room h) 0 ≡ true =
+      sym (lacks-hold met 0 old p h (ap old.hold_of (sym (the-one p q is)) ∙ was)) ∙ full in
+      (then.0, then.1, record { like = then.2.like; room = then.2.room ∙ lowered-none (met.room h) at_most });
+  others = refused.others;
+}
+
 -- the pieces so far were asked, and the next one may have been: so each of all may have been
-module _ {H : Type 0} (met : hold.Ghosts H) (first old new : Held H) (all : List Piece) (k : ℕ) (p : Piece) where
-  pub may-ask : Asks met (take k all) first old → MayAsk met (p ∷ []) old new → is_one_of (take k all) p ≡ false
-      → is_one_of all p ≡ true → MayAsk met all first new
+module _ {H : Type 0} (met : hold.Ghosts H) (given : ℕ) (first old new : Held H) (all : List Piece) (k : ℕ) (p : Piece) where
+  pub may-ask : AsksFor met given (take k all) first old → MayAskFor met given (p ∷ []) old new → is_one_of (take k all) p ≡ false
+      → is_one_of all p ≡ true → MayAskFor met given all first new
   may-ask asks may fresh here =
-      let May : H → H → Type 0 = MayBeAsked met in
-      let tried : (g h : H) → IsAsked met g h → May g h = λ g h asked. inr (record { like = asked.like; room = inr asked.room }) in
+      let May : H → H → Type 0 = MayBeAskedFor met given in
       becomes-wider May May (λ g h may. may) (λ h. inl refl) (take k all ++ p ∷ []) all first new within
-      (becomes-then May (take k all) (p ∷ []) first old new
-      (becomes-wider (IsAsked met) May tried (λ h. inl refl) (take k all) (take k all) first old (λ q is. is) asks) may
+      (becomes-then May (take k all) (p ∷ []) first old new (asks-may met given (take k all) first old asks) may
       (λ q is. another (take k all) p q fresh is))
     where
       within : (q : Piece) → is_one_of (take k all ++ p ∷ []) q ≡ true → is_one_of all q ≡ true
@@ -101,20 +143,49 @@ module _ {H : Type 0} (met : hold.Ghosts H) (first old new : Held H) (all : List
             | inr this ↦ ap (is_one_of all) (the-one p q this) ∙ here
           ]
 
+-- ---- one more piece was pinned, or lacks room
+
+module _ {H : Type 0} (met : hold.Ghosts H) (given : ℕ) (first old new : Held H) (ps : List Piece) (p : Piece)
+    (asks : AsksFor met given ps first old) (fresh : is_one_of ps p ≡ false) where
+  pub asks-then : AsksFor met given (p ∷ []) old new → AsksFor met given (ps ++ p ∷ []) first new
+  asks-then one = becomes-then (IsAskedFor met given) ps (p ∷ []) first old new asks one (λ q is. another ps p q fresh is)
+
+  -- it lacks room where it did at first
+  pub lacks-first : lacks_room met given first p ≡ lacks_room met given old p
+  lacks-first = lacks-same met given first old p (sym (asks.others p fresh))
+
+  pub pinned-then : (pins pins' : List H) (pin : H) → pins' ≡ pins ++ pin ∷ [] → met.piece pin ≡ p → IsPinWith met given old pin
+      → ArePinned met given first ps pins → ArePinned met given first (ps ++ p ∷ []) pins'
+  pinned-then pins pins' pin now of is so_far =
+      let here : first.hold_of (met.piece pin) ≡ old.hold_of (met.piece pin) =
+      ap first.hold_of of ∙ sym (asks.others p fresh) ∙ ap old.hold_of (sym of) in
+      let first_pin : IsPinWith met given first pin = record { of = (is.of.0, here ∙ is.of.1, is.of.2); room = is.room } in
+      record {
+        one_each = ap (map met.piece) now ∙ map_push met.piece pins pin ∙ (λ i. so_far.one_each i ++ of i ∷ []);
+        each = subst (All (IsPinWith met given first)) (sym now) (All-push (IsPinWith met given first) pins pin so_far.each first_pin);
+      }
+
+  -- so far none lacks room
+  pub has_room-then : list_any (lacks_room met given first) ps ≡ false → lacks_room met given old p ≡ false
+      → list_any (lacks_room met given first) (ps ++ p ∷ []) ≡ false
+  has_room-then none one =
+      list_any-append (lacks_room met given first) ps (p ∷ []) ∙ ap (λ b. b || (lacks_room met given first p || false)) none
+      ∙ or-false (lacks_room met given first p) ∙ lacks-first ∙ one
+
 -- ---- one more piece was asked
 
 module _ {H : Type 0} (met : hold.Ghosts H) (first old new : Held H) (ps : List Piece) (p : Piece) (holds holds' : List H)
     (bare bare' : List Piece) (asks : Asks met ps first old) (fresh : is_one_of ps p ≡ false)
     (one : AsksOne met p old new holds holds' bare bare') where
   pub asks-more : Asks met (ps ++ p ∷ []) first new
-  asks-more = becomes-then (IsAsked met) ps (p ∷ []) first old new asks one.asks (λ q is. another ps p q fresh is)
+  asks-more = asks-then met 0 first old new ps p asks fresh one.asks
 
   -- the piece has the hold that it had at first
   same : old.hold_of p ≡ first.hold_of p
   same = asks.others p fresh
 
   bare-same : is_bare met first p ≡ is_bare met old p
-  bare-same = ap (λ o. option_map_or (λ h. is_at_most (met.room h) 0) o false) (sym same)
+  bare-same = lacks-first met 0 first old new ps p asks fresh
 
   -- the pieces that pass a test with one more, which does, or doesn't
   with-it : (f : Piece → Bool) → f p ≡ true → filter f ps ++ p ∷ [] ≡ filter f (ps ++ p ∷ [])

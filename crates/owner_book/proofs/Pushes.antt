@@ -1,13 +1,14 @@
 -- Fragments that a push puts over those of a file: what they are with their holds, and where they end.
 use Rattle.fs_types.proofs.Common.{◌≡◌, ℕ, ◌≤◌, max, List, [], ◌∷◌, All, All-head, All-tail, if◌then◌else◌, ◌∙◌, ap, arith}
 use Rattle.fs_types.specs.Fragments.{end_of}
-use Rattle.fs_types.specs.Pieces.{Fragment}
+use Rattle.fs_types.specs.Pieces.{Fragment, Piece}
 use Rattle.fs_types.specs.declared.limits.TheConstants.{LONGEST_FILE}
+use Rattle.fs_types.specs.declared.push.Push.{Push}
 use Rattle.span_list.specs.Spans.{put_fragment}
 use Rattle.span_list.proofs.CallerLemmas.{put_ends}
-use Rattle.piece_table.specs.HeldSpans.{Held, PutsAll, is_named, put_fragments, while_named}
-use Rattle.owner_book.specs.Kept.{AreWithin}
-use Rattle.owner_book.specs.Commits.{laid_over, size_after}
+use Rattle.piece_table.specs.HeldSpans.{Held, PutsAll, is_named, pushed, put_fragments, while_named}
+use Rattle.owner_book.specs.Kept.{AreWithin, BookFile}
+use Rattle.owner_book.specs.Commits.{laid_over, size_after, with_push}
 
 -- what putting all of some fragments over others gives is one thing
 pub laid-is : {H : Type 0} (over old new : Held H) → PutsAll over old new → new ≡ laid_over over old
@@ -16,6 +17,14 @@ laid-is over old new puts = λ i. record {
   hold_of = λ q. (puts.holds q ∙ ap (λ (fs : List Fragment). if is_named over.fragments q then over.hold_of q
       else while_named fs old.hold_of q) puts.fragments) i;
 }
+
+-- so is the file then
+pub laid-file : {H : Type 0} (piece : H → Piece) (push : Push H) (f : BookFile H) (size : ℕ) (new : Held H)
+    → size ≡ size_after f.size push.frags.items → PutsAll (pushed piece push.frags.items push.holds.items) f.held new
+    → record { size = size; frozen = f.frozen; held = new } ≡ with_push piece push f
+laid-file piece push f size new is puts =
+    let laid = laid-is (pushed piece push.frags.items push.holds.items) f.held new puts in
+    λ i. record { size = is i; frozen = f.frozen; held = laid i }
 
 -- they end within the size after
 pub ends-laid : (over fs : List Fragment) (n : ℕ) → All (λ f. end_of f ≤ n) fs

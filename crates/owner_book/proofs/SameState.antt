@@ -1,12 +1,12 @@
--- A path's file is the state of its journal after a look-up, and with another hold of a piece.
-use Rattle.fs_types.proofs.Common.{◌≡◌, ◌≤◌, List, All, Option, Some, None, option_map, refl, sym, ap, ◌∙◌, subst, inl, inr, true≢false}
+-- A path's file is the state of its journal after a look-up, and with another hold of a piece; and a replica shows that state.
+use Rattle.fs_types.proofs.Common.{◌≡◌, ℕ, ◌≤◌, true, List, All, Option, Some, None, option_map, refl, sym, ap, ◌∙◌, subst, inl, inr, true≢false}
 use Rattle.fs_types.specs.FragmentMarks.{marks_of_fragments}
 use Rattle.fs_types.specs.Fragments.{end_of}
-use Rattle.fs_types.specs.Pieces.{Piece}
+use Rattle.fs_types.specs.Pieces.{Fragment, Piece}
 use Rattle.fs_types.specs.declared.hold.Hold as hold
 use Rattle.owner_book.specs.Calls.{attr, attr_in}
 use Rattle.owner_book.specs.HoldLends.{with_file_hold}
-use Rattle.owner_book.specs.Journals.{Entry, LentStands, LookedStands, StandsFor, marked}
+use Rattle.owner_book.specs.Journals.{Entry, LentStands, LookedStands, ReplicaShows, StandsFor, marked}
 use Rattle.owner_book.specs.Kept.{BookFile, BookPath, held_at, held_in}
 use Rattle.owner_book.proofs.States.{IsWithin}
 
@@ -58,3 +58,14 @@ module _ {H : Type 0} where
     file = same-marks x.file (option_map (with_file_hold id w) x.file) (lent-attr id w x.file) (lent-fragments id w x.file) ∙ stands.file;
     within = same-within x.file (option_map (with_file_hold id w) x.file) (lent-attr id w x.file) (lent-fragments id w x.file) stands.within;
   }
+
+  -- fragments and a size that are those of a frozen file have its marks
+  shown-marks : (file : Option (BookFile H)) (frags : List Fragment) (size : ℕ) → (attr_in file).frozen ≡ true → size ≡ (attr_in file).size
+      → frags ≡ (held_in file).fragments → marked file ≡ Some (record { cells = marks_of_fragments frags size; frozen = true })
+  shown-marks None frags size frozen told fragments = absurd (true≢false (sym frozen))
+  shown-marks (Some f) frags size frozen told fragments =
+      λ i. Some (record { cells = marks_of_fragments (sym fragments i) (sym told i); frozen = frozen i })
+
+  pub replica-shows : (met : hold.Ghosts H) → ReplicaShows met
+  replica-shows met entries given p x r stands frozen replica =
+      sym stands.file ∙ shown-marks x.file r.frags.items r.size frozen replica.size replica.fragments

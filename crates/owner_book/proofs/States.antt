@@ -1,7 +1,7 @@
 -- A path's file is the state of its journal: one line more.
 use Rattle.fs_types.proofs.Common.{◌≡◌, ℕ, ◌<◌, ◌≤◌, max, Bool, true, false, List, [], ◌∷◌, ◌++◌, map, fold, All, All-head, All-tail}
 use Rattle.fs_types.proofs.Common.{Option, Some, None}
-use Rattle.fs_types.proofs.Common.{refl, sym, ap, ◌∙◌, map-append, IfSome, none-some, suc, arith, option_map, if◌then◌else◌, length, cond-false}
+use Rattle.fs_types.proofs.Common.{refl, sym, ap, ◌∙◌, map-append, IfSome, none-some, suc, arith, option_map, if◌then◌else◌, length, cond-false, not, true≢false}
 use Rattle.fs_types.specs.Marks.{Mark, no_mark}
 use Rattle.fs_types.specs.Overwrite.{cut}
 use Rattle.fs_types.specs.PlainFile.{File}
@@ -13,10 +13,12 @@ use Rattle.span_list.specs.Spans.{put_fragment}
 use Rattle.span_list.proofs.CallerLemmas.{cut_ends, marks_of_fragments-cut, marks_of_fragments-put, put_ends}
 use Rattle.piece_table.specs.HeldSpans.{put_fragments}
 use Rattle.owner_book.specs.Kept.{BookFile, BookPath, no_path}
-use Rattle.owner_book.specs.Calls.{change_refusal, create_refusal}
+use Rattle.owner_book.specs.Calls.{attr_in, change_refusal, create_refusal}
 use Rattle.owner_book.specs.Commits.{size_after, with_push}
-use Rattle.owner_book.specs.Journals.{CommittedStands, CreatedStands, StandsFor, TruncatedStands, UnlinkedStands}
-use Rattle.owner_book.specs.Journals.{creation, addition, truncation, removal, Deed, Entry, deed_after, file_after, marked, put_marks}
+use Rattle.owner_book.specs.Journals.{CommittedStands, CreatedStands, FrozenByTheLast, LaminatedStands, StandsFor, TruncatedStands, UnlinkedStands}
+use Rattle.owner_book.specs.Journals.{creation, addition, truncation, lamination, removal, Deed, Entry, can_be_done, deed_after, file_after, is_lamination}
+use Rattle.owner_book.specs.Journals.{marked, put_marks}
+use Rattle.owner_book.specs.Laminations.{frozen}
 use Rattle.owner_book.specs.Truncations.{with_size}
 use Rattle.owner_book.proofs.Pushes.{ends-laid}
 
@@ -45,10 +47,37 @@ abbrev file_with : Bool → List (Option Mark) → File (Option Mark)
 file_with frozen marks = Some (record { cells = marks; frozen = frozen })
 
 -- the marks of a file that isn't frozen become others
-unfrozen-marks : (frozen : Bool) (marks old new : List (Option Mark)) → frozen ≡ false → marks ≡ new
-    → file_with frozen marks ≡ (if frozen then file_with frozen old else file_with frozen new)
-unfrozen-marks frozen marks old new unfrozen same =
-    ap (file_with frozen) same ∙ sym (cond-false frozen (file_with frozen old) (file_with frozen new) unfrozen)
+unfrozen-marks : (frozen now : Bool) (marks old new : List (Option Mark)) → frozen ≡ false → marks ≡ new
+    → file_with now marks ≡ (if frozen then file_with frozen old else file_with now new)
+unfrozen-marks frozen now marks old new unfrozen same =
+    ap (file_with now) same ∙ sym (cond-false frozen (file_with frozen old) (file_with now new) unfrozen)
+
+-- a deed that could be done leaves a frozen file exactly where it is a lamination
+abbrev is_frozen : File (Option Mark) → Bool
+is_frozen None = false
+is_frozen (Some f) = f.frozen
+
+frozen-after : (f : File (Option Mark)) (deed : Deed) → can_be_done f deed ≡ true → is_frozen (deed_after f deed) ≡ is_lamination deed
+frozen-after None creation done = refl
+frozen-after (Some f) creation done = absurd (true≢false (sym done))
+frozen-after None (addition frags) done = absurd (true≢false (sym done))
+frozen-after (Some f) (addition frags) done = by f.frozen done where
+  by : (b : Bool) → not b ≡ true → is_frozen (if b then file_with b f.cells else file_with b (put_marks frags f.cells)) ≡ false
+  by false _ = refl
+  by true e = absurd (true≢false (sym e))
+frozen-after None (truncation frags size) done = absurd (true≢false (sym done))
+frozen-after (Some f) (truncation frags size) done = by f.frozen done where
+  by : (b : Bool) → not b ≡ true
+      → is_frozen (if b then file_with b f.cells else file_with b (cut no_mark (put_marks frags f.cells) size)) ≡ false
+  by false _ = refl
+  by true e = absurd (true≢false (sym e))
+frozen-after None (lamination frags) done = absurd (true≢false (sym done))
+frozen-after (Some f) (lamination frags) done = by f.frozen where
+  by : (b : Bool) → is_frozen (if b then file_with b f.cells else file_with true (put_marks frags f.cells)) ≡ true
+  by false = refl
+  by true = refl
+frozen-after None removal done = absurd (true≢false (sym done))
+frozen-after (Some f) removal done = refl
 
 module _ {H : Type 0} where
   -- the fragments of a file end within it
@@ -118,7 +147,7 @@ module _ {H : Type 0} where
       let over : List Fragment = push.frags.items in
       changed-stands (with_push piece push) (addition over)
       (λ f unfrozen within. (
-        unfrozen-marks f.frozen _ (marks_of_fragments f.held.fragments f.size) _ unfrozen (marks-laid over f.held.fragments f.size some within),
+        unfrozen-marks f.frozen f.frozen _ (marks_of_fragments f.held.fragments f.size) _ unfrozen (marks-laid over f.held.fragments f.size some within),
         ends-laid over f.held.fragments f.size within,
       ))
       entries x line
@@ -128,10 +157,30 @@ module _ {H : Type 0} where
       let over : List Fragment = push.frags.items in
       changed-stands (λ f. with_size size (with_push piece push f)) (truncation over size)
       (λ f unfrozen within. (
-        unfrozen-marks f.frozen _ (marks_of_fragments f.held.fragments f.size) _ unfrozen
+        unfrozen-marks f.frozen f.frozen _ (marks_of_fragments f.held.fragments f.size) _ unfrozen
             (marks_of_fragments-cut size (put_fragments over f.held.fragments) (size_after f.size over)
             (ends-laid over f.held.fragments f.size within)
             ∙ ap (λ ms. cut no_mark ms size) (marks-laid over f.held.fragments f.size some within)),
         cut_ends size (put_fragments over f.held.fragments),
       ))
       entries x line
+
+  pub laminated-stands : (piece : H → Piece) → LaminatedStands piece
+  laminated-stands piece entries x line push some =
+      let over : List Fragment = push.frags.items in
+      changed-stands (λ f. frozen (with_push piece push f)) (lamination over)
+      (λ f unfrozen within. (
+        unfrozen-marks f.frozen true _ (marks_of_fragments f.held.fragments f.size) _ unfrozen
+            (marks-laid over f.held.fragments f.size some within),
+        ends-laid over f.held.fragments f.size within,
+      ))
+      entries x line
+
+  -- a file is frozen where its marks are a frozen file
+  frozen-marked : (file : Option (BookFile H)) → (attr_in file).frozen ≡ is_frozen (marked file)
+  frozen-marked None = refl
+  frozen-marked (Some f) = refl
+
+  pub frozen-by_the_last : FrozenByTheLast H
+  frozen-by_the_last entries e x stands done =
+      frozen-marked x.file ∙ ap is_frozen (stands.file ∙ file_after-more entries e) ∙ frozen-after (file_after entries) e.deed done

@@ -1,13 +1,32 @@
--- Which holds come out of a file over which a push was put, and which was cut then.
+-- What a cut makes of a file, and which holds come out of one over which a push was put, and which was cut then.
 use Rattle.fs_types.proofs.Common.{◌≡◌, ℕ, Bool, true, false, List, [], ◌++◌, Some, None, is_some, if◌then◌else◌}
 use Rattle.fs_types.proofs.Common.{All, All-append, All-weaker, Contains-append_left, Contains-append_right, sym, ap, ◌∙◌, subst}
 use Rattle.fs_types.proofs.Common.{cases_Bool, cond-false, cond-true, false_from_ne_true, inl, inr, none-some, true≢false}
 use Rattle.fs_types.specs.Fragments.{piece_eq}
-use Rattle.fs_types.specs.Pieces.{Piece}
+use Rattle.fs_types.specs.Pieces.{Fragment, Piece}
 use Rattle.span_list.proofs.CallerLemmas.{AllPairs-append}
-use Rattle.piece_table.specs.HeldSpans.{AreGone, AreHeld, Cuts, HandsOver, Held, PutsAll, is_named}
+use Rattle.piece_table.specs.HeldSpans.{AreGone, AreHeld, Cuts, HandsOver, Held, PutsAll, is_named, while_named}
 use Rattle.piece_table.proofs.CallerLemmas.{same_piece}
-use Rattle.owner_book.specs.Truncations.{beside}
+use Rattle.owner_book.specs.Kept.{BookFile}
+use Rattle.owner_book.specs.Truncations.{beside, with_size}
+
+-- what cutting a file gives is one thing
+pub cut-file : {H : Type 0} (size : ℕ) (f : BookFile H) (new : Held H) → Cuts size f.held new
+    → record { size = size; frozen = f.frozen; held = new } ≡ with_size size f
+cut-file size f new cuts = λ i. record {
+  size = size;
+  frozen = f.frozen;
+  held = record {
+    fragments = cuts.fragments i;
+    hold_of = λ q. (cuts.holds q ∙ ap (λ (fs : List Fragment). while_named fs f.held.hold_of q) cuts.fragments) i;
+  };
+}
+
+-- what comes out into an empty list is what is gone
+pub handed-one : {H : Type 0} (piece : H → Piece) (old new : Held H) (dead after : List H) → dead ≡ [] → HandsOver piece old new dead after
+    → AreGone piece old new after
+handed-one piece old new dead after none handed =
+    subst (AreGone piece old new) (sym (handed.1 ∙ ap (λ hs. hs ++ handed.0) none)) handed.2
 
 -- A push is put over what is old, and of what that gives the bytes from a place on are dropped. No piece of the push is old.
 module _ {H : Type 0} (is_ready : H → Bool) (piece : H → Piece) (byte_count : H → ℕ) (over old put cut : Held H) (size : ℕ)

@@ -28,9 +28,13 @@ module _ {H : Type 0} where
     held = laid_over (pushed piece push.frags.items push.holds.items) f.held;
   }
 
+  -- a path once a line changed its file, if it has one, in this way
+  abbrev pub with_line : ℕ → (BookFile H → BookFile H) → BookPath H → BookPath H
+  with_line line change x = record { journal = x.journal ++ line ∷ []; file = option_map change x.file }
+
   -- a path once a line committed a push to its file
   abbrev pub with_commit : (H → Piece) → ℕ → Push H → BookPath H → BookPath H
-  with_commit piece line push x = record { journal = x.journal ++ line ∷ []; file = option_map (with_push piece push) x.file }
+  with_commit piece line push x = with_line line (with_push piece push) x
 
   -- each piece of the path's file has a ready hold of its own, and no other piece has one
   abbrev pub HasHolds : (H → Bool) → (H → Piece) → (H → ℕ) → BookPath H → Type 0

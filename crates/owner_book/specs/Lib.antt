@@ -3,7 +3,11 @@ pub mod Kept
 pub mod Calls
 pub mod Commits
 pub mod Truncations
-pub mod Journals
+pub mod Laminations
+pub mod Changes
 pub mod Lookups
 pub mod LookupLaws
+pub mod Replicas
+pub mod Journals
 pub mod HoldLends
+pub mod BookHolds

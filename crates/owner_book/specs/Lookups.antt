@@ -6,7 +6,7 @@ use Rattle.std.specs.Option.{option_map_or}
 use Rattle.fs_types.specs.FragmentMarks.{mark_at}
 use Rattle.fs_types.specs.Fragments.{piece_eq}
 use Rattle.fs_types.specs.Pieces.{Fragment, Piece}
-use Rattle.fs_types.specs.Room.{is_at_most, lowered}
+use Rattle.fs_types.specs.Room.{IsAtLeast, is_at_most, lowered}
 use Rattle.fs_types.specs.declared.hold.Hold as hold
 use Rattle.span_list.specs.Spans.{cut_fragments, rest_from}
 use Rattle.piece_table.specs.HeldSpans.{Held}
@@ -43,9 +43,13 @@ module _ {H : Type 0} where
     pub held : Asked (held_at old) (held_at new)
 
 module _ {H : Type 0} (met : hold.Ghosts H) where
+  -- a piece whose hold has too little room for a pin with so much: its room is at most that
+  abbrev pub lacks_room : ℕ → Held H → Piece → Bool
+  lacks_room given x q = option_map_or (λ h. is_at_most (met.room h) given) (x.hold_of q) false
+
   -- a piece whose hold has no room for a pin
   abbrev pub is_bare : Held H → Piece → Bool
-  is_bare x q = option_map_or (λ h. is_at_most (met.room h) 0) (x.hold_of q) false
+  is_bare x q = lacks_room 0 x q
 
   -- a ready hold of the same piece in the same place
   pub record IsLike (was now : H) : Type 0 where
@@ -64,27 +68,54 @@ module _ {H : Type 0} (met : hold.Ghosts H) where
     pub pinned : map met.piece holds ≡ filter (λ q. not (is_bare x q)) pieces
     pub each : All (IsPinOf x) holds
 
-  -- a hold that was asked for a pin with no room: what that takes from its room is gone, if it has any
-  pub record IsAsked (was now : H) : Type 0 where
-    pub like : IsLike was now
-    pub room : met.room now ≡ lowered 0 (met.room was)
+  -- a pin of a piece that has at least this room
+  pub record IsPinWith (given : ℕ) (x : Held H) (pin : H) : Type 0 where
+    pub of : IsPinOf x pin
+    pub room : IsAtLeast given (met.room pin)
 
-  -- a hold that was asked for one, and may have given none for want of memory
-  pub record WasTried (was now : H) : Type 0 where
+  -- each of the pieces has one pin, in their order, with at least this room
+  pub record ArePinned (given : ℕ) (x : Held H) (pieces : List Piece) (pins : List H) : Type 0 where
+    pub one_each : map met.piece pins ≡ pieces
+    pub each : All (IsPinWith given x) pins
+
+  -- a hold that was asked for a pin with so much room, or with none: what that takes from its room is gone, if it has any
+  pub record IsAskedFor (given : ℕ) (was now : H) : Type 0 where
     pub like : IsLike was now
-    pub room : (met.room now ≡ met.room was) ⊎ (met.room now ≡ lowered 0 (met.room was))
+    pub room : met.room now ≡ lowered given (met.room was)
+
+  abbrev pub IsAsked : H → H → Type 0
+  IsAsked = IsAskedFor 0
+
+  -- a hold that gave no pin, and kept its room
+  pub record IsRefused (was now : H) : Type 0 where
+    pub like : IsLike was now
+    pub room : met.room now ≡ met.room was
+
+  -- a hold that was asked for a pin, and may have given none
+  pub record WasTriedFor (given : ℕ) (was now : H) : Type 0 where
+    pub like : IsLike was now
+    pub room : (met.room now ≡ met.room was) ⊎ (met.room now ≡ lowered given (met.room was))
 
   -- a hold that is as it was, or was asked so
-  abbrev pub MayBeAsked : H → H → Type 0
-  MayBeAsked was now = (now ≡ was) ⊎ WasTried was now
+  abbrev pub MayBeAskedFor : ℕ → H → H → Type 0
+  MayBeAskedFor given was now = (now ≡ was) ⊎ WasTriedFor given was now
 
-  -- the holds of these pieces were asked for pins, and all else stays
+  abbrev pub MayBeAsked : H → H → Type 0
+  MayBeAsked = MayBeAskedFor 0
+
+  -- the holds of these pieces were asked for pins with so much room, or with none, and all else stays
+  abbrev pub AsksFor : ℕ → List Piece → Held H → Held H → Type 0
+  AsksFor given pieces old new = HoldsBecome (IsAskedFor given) pieces old new
+
   abbrev pub Asks : List Piece → Held H → Held H → Type 0
-  Asks pieces old new = HoldsBecome IsAsked pieces old new
+  Asks = AsksFor 0
 
   -- some of them were
+  abbrev pub MayAskFor : ℕ → List Piece → Held H → Held H → Type 0
+  MayAskFor given pieces old new = HoldsBecome (MayBeAskedFor given) pieces old new
+
   abbrev pub MayAsk : List Piece → Held H → Held H → Type 0
-  MayAsk pieces old new = HoldsBecome MayBeAsked pieces old new
+  MayAsk = MayAskFor 0
 
   -- One more piece was asked for a pin: that was added to the pins, or the piece to the bare ones.
   pub record AsksOne (p : Piece) (old new : Held H) (holds holds' : List H) (bare bare' : List Piece) : Type 0 where

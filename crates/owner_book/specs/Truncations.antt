@@ -1,10 +1,10 @@
 -- What a truncation makes of a path, and which holds it hands out.
-use Rattle.std.specs.Prelude.{ℕ, List, [], ◌∷◌, ◌++◌, Option, Some, None, option_map, if◌then◌else◌}
+use Rattle.std.specs.Prelude.{ℕ, List, ◌++◌, if◌then◌else◌}
 use Rattle.fs_types.specs.Pieces.{Fragment, Piece}
 use Rattle.fs_types.specs.declared.push.Push.{Push}
 use Rattle.span_list.specs.Spans.{cut_fragments}
 use Rattle.piece_table.specs.HeldSpans.{AreGone, Held, is_named, pushed, while_named}
-use Rattle.owner_book.specs.Commits.{with_push}
+use Rattle.owner_book.specs.Commits.{with_line, with_push}
 use Rattle.owner_book.specs.Kept.{BookFile, BookPath, held_at}
 
 module _ {H : Type 0} where
@@ -20,10 +20,7 @@ module _ {H : Type 0} where
 
   -- a path once a line committed a push to its file, and then gave the file so many bytes
   abbrev pub with_truncation : (H → Piece) → ℕ → Push H → ℕ → BookPath H → BookPath H
-  with_truncation piece line push size x = record {
-    journal = x.journal ++ line ∷ [];
-    file = option_map (λ f. with_size size (with_push piece push f)) x.file;
-  }
+  with_truncation piece line push size x = with_line line (λ f. with_size size (with_push piece push f)) x
 
   -- the fragments of one and of another, and the hold of each piece that one has, or else the other
   abbrev pub beside : Held H → Held H → Held H
@@ -36,19 +33,3 @@ module _ {H : Type 0} where
   abbrev pub AreDeadOfBoth : (H → Piece) → Push H → BookPath H → BookPath H → List H → Type 0
   AreDeadOfBoth piece push old new dead =
       AreGone piece (beside (pushed piece push.frags.items push.holds.items) (held_at old)) (held_at new) dead
-
-  -- ---- a commit and a truncation at once: that a size is given tells which
-
-  -- a file over which a push was put, and which then was given a size, where there is one
-  abbrev pub file_changed : (H → Piece) → Push H → Option ℕ → BookFile H → BookFile H
-  file_changed piece push None f = with_push piece push f
-  file_changed piece push (Some size) f = with_size size (with_push piece push f)
-
-  -- a path once a line did so to its file
-  abbrev pub changed : (H → Piece) → ℕ → Push H → Option ℕ → BookPath H → BookPath H
-  changed piece line push size x = record { journal = x.journal ++ line ∷ []; file = option_map (file_changed piece push size) x.file }
-
-  -- what may lose its last byte then: the pieces of the file, and where it is cut those of the push as well
-  abbrev pub held_before : (H → Piece) → Push H → Option ℕ → Held H → Held H
-  held_before piece push None old = old
-  held_before piece push (Some size) old = beside (pushed piece push.frags.items push.holds.items) old

@@ -1,27 +1,32 @@
 //! The files of one owner.
 
 ghost use Rattle.std.specs.Prelude.{◌≡◌, ◌≤◌, ◌+◌, ℕ, List};
-ghost use Rattle.std.specs.Prelude.{IfErr, IfOk, IfSome, OnErr, OnOk};
+ghost use Rattle.std.specs.Prelude.{IfErr, IfOk, IfSome, IsTrue, OnErr, OnOk, OnSome, is_some, not};
 ghost use Rattle.std.specs.Borrow.{sem};
 ghost use Rattle.std.specs.Option.{option_copied_mut};
 ghost use Rattle.fs_types.specs.declared.limits.TheConstants.{LONGEST_FILE};
 ghost use Rattle.piece_table.specs.HeldSpans.{AreGone};
 ghost use Rattle.owner_book.specs.Kept.{AreWithin, held_at, no_path, path_in, path_of};
+ghost use Rattle.owner_book.specs.BookHolds.{AreAllHolds};
 ghost use Rattle.owner_book.specs.Calls.{AnswersBy, Changes, IsAsBefore};
 ghost use Rattle.owner_book.specs.Calls.{attr, created, opened, version, without_file};
 ghost use Rattle.owner_book.specs.Calls.{change_refusal, create_refusal, no_file_refusal};
-ghost use Rattle.owner_book.specs.Commits.{AreDead, HasHolds, MayCommit, with_commit};
+ghost use Rattle.owner_book.specs.Changes.{IfResize, changed, held_before};
+ghost use Rattle.owner_book.specs.Commits.{AllHaveHolds, AreDead, HasHolds, MayCommit, with_commit};
 ghost use Rattle.owner_book.specs.HoldLends.{lends_hold_of};
-ghost use Rattle.owner_book.specs.Lookups.{Asks, IsLooked, MayAsk, Pins, parts_in, pieces_named};
-ghost use Rattle.owner_book.specs.Truncations.{AreDeadOfBoth, changed, held_before};
-ghost use Rattle.owner_book.specs.Truncations.{with_truncation};
+ghost use Rattle.owner_book.specs.Laminations.{with_lamination};
+ghost use Rattle.owner_book.specs.Lookups.{Asks, AsksFor, IsLooked, MayAsk, MayAskFor, Pins};
+ghost use Rattle.owner_book.specs.Lookups.{parts_in, pieces_named};
+ghost use Rattle.owner_book.specs.Replicas.{IsReplica, some_lacks};
+ghost use Rattle.owner_book.specs.Truncations.{AreDeadOfBoth, with_truncation};
 
+use crate::after_push::AfterPush;
 use crate::book_no::BookNo;
 use crate::committed::Committed;
 use crate::file_key::{FileKey, FileName};
 use crate::looked::Looked;
 use crate::owned_path::{NO_FILE, OwnedPath};
-use fs_types::{Attr, Hold, LineNo, Path, PieceId, Push, Version, Want};
+use fs_types::{Attr, Hold, LineNo, Path, PieceId, Push, Replica, Version, Want};
 use indexmap::IndexMap;
 use span_list::Spans;
 use std::alloc::Global;
@@ -163,7 +168,7 @@ impl<H: Hold + Drop, S: Spans + Drop> OwnerBook<H, S> {
         ensures same { OnErr result (IsAsBefore self.old self.new) }
         ensures holds { HasHolds H.is_ready H.piece H.bytes (path_in self.new gfid p.now) }
     {
-        self.change(alloc, gfid, p, line, push, None)
+        self.change(alloc, gfid, p, line, push, AfterPush::Leave)
     }
 
     /// Commits a line that puts a push over a path's file, and then cuts it to so many bytes, or
@@ -193,11 +198,38 @@ impl<H: Hold + Drop, S: Spans + Drop> OwnerBook<H, S> {
         ensures same { OnErr result (IsAsBefore self.old self.new) }
         ensures holds { HasHolds H.is_ready H.piece H.bytes (path_in self.new gfid p.now) }
     {
-        self.change(alloc, gfid, p, line, push, Some(size))
+        self.change(alloc, gfid, p, line, push, AfterPush::Resize(size))
     }
 
-    // Commits a line that puts a push over a path's file, and then cuts or extends it to a size,
-    // where one is given.
+    /// Commits a line that puts a push over a path's file, and then freezes it: from then on no
+    /// line changes it. It is refused as a commit is. After a refusal the book is as before, and
+    /// the push is given back.
+    pub fn laminate(
+        &mut self,
+        alloc: Global,
+        gfid: u64,
+        p: &Path,
+        line: LineNo,
+        push: Push<H>,
+    ) -> Result<Committed<H>, (BookNo, Push<H>)>
+        requires holds { HasHolds H.is_ready H.piece H.bytes (path_in self.old gfid p.now) }
+        requires push { MayCommit H.is_ready H.piece H.bytes push (path_in self.old gfid p.now) }
+        ensures answer { AnswersBy (λ e. e.0)
+            (change_refusal (path_in self.old gfid p.now)) result }
+        ensures version { IfOk result (λ c. c.v ≡ version (path_in self.new gfid p.now)) }
+        ensures attr { IfOk result (λ c. c.attr ≡ attr (path_in self.new gfid p.now)) }
+        ensures laminated { OnOk result (Changes self.old self.new gfid p.now
+            (with_lamination H.piece line push (path_in self.old gfid p.now))) }
+        ensures dead { IfOk result (λ c. AreDead H.piece (path_in self.old gfid p.now)
+            (path_in self.new gfid p.now) c.dead.items) }
+        ensures given_back { IfErr result (λ e. e.1 ≡ push) }
+        ensures same { OnErr result (IsAsBefore self.old self.new) }
+        ensures holds { HasHolds H.is_ready H.piece H.bytes (path_in self.new gfid p.now) }
+    {
+        self.change(alloc, gfid, p, line, push, AfterPush::Freeze)
+    }
+
+    // Commits a line that puts a push over a path's file, and then does this with the file.
     fn change(
         &mut self,
         alloc: Global,
@@ -205,9 +237,9 @@ impl<H: Hold + Drop, S: Spans + Drop> OwnerBook<H, S> {
         p: &Path,
         line: LineNo,
         push: Push<H>,
-        size: Option<u64>,
+        after: AfterPush,
     ) -> Result<Committed<H>, (BookNo, Push<H>)>
-        requires size { IfSome size (λ n. n ≤ LONGEST_FILE) }
+        requires size { IfResize after (λ n. n ≤ LONGEST_FILE) }
         requires holds { HasHolds H.is_ready H.piece H.bytes (path_in self.old gfid p.now) }
         requires push { MayCommit H.is_ready H.piece H.bytes push (path_in self.old gfid p.now) }
         ensures answer { AnswersBy (λ e. e.0)
@@ -215,9 +247,9 @@ impl<H: Hold + Drop, S: Spans + Drop> OwnerBook<H, S> {
         ensures version { IfOk result (λ c. c.v ≡ version (path_in self.new gfid p.now)) }
         ensures attr { IfOk result (λ c. c.attr ≡ attr (path_in self.new gfid p.now)) }
         ensures changed { OnOk result (Changes self.old self.new gfid p.now
-            (changed H.piece line push size (path_in self.old gfid p.now))) }
+            (changed H.piece line push after (path_in self.old gfid p.now))) }
         ensures dead { IfOk result (λ c. AreGone H.piece
-            (held_before H.piece push size (held_at (path_in self.old gfid p.now)))
+            (held_before H.piece push after (held_at (path_in self.old gfid p.now)))
             (held_at (path_in self.new gfid p.now)) c.dead.items) }
         ensures given_back { IfErr result (λ e. e.1 ≡ push) }
         ensures same { OnErr result (IsAsBefore self.old self.new) }
@@ -227,7 +259,7 @@ impl<H: Hold + Drop, S: Spans + Drop> OwnerBook<H, S> {
         let Some(kept) = self.files.get_mut(FileName { gfid, path }) else {
             return Err((BookNo::NoEnt(Version(0)), push));
         };
-        kept.change(alloc, line, push, size)
+        kept.change(alloc, line, push, after)
     }
 
     /// Commits a line that removes a path's file, also a frozen one, and gives the holds of all
@@ -293,6 +325,52 @@ impl<H: Hold + Drop, S: Spans + Drop> OwnerBook<H, S> {
             return Err(BookNo::NoEnt(Version(0)));
         };
         kept.lookup(alloc, off, len)
+    }
+
+    /// A replica of a path's file, which is frozen: all of it at its version, with a pin of each
+    /// piece that has at least so much room. It gives nothing where the hold of some piece has too
+    /// little, at most that. Then, and after want of memory, some holds may have been asked for
+    /// pins.
+    pub fn replica(
+        &mut self,
+        alloc: Global,
+        gfid: u64,
+        p: &Path,
+        room: u64,
+    ) -> Result<Option<Replica<H>>, BookNo>
+        requires holds { HasHolds H.is_ready H.piece H.bytes (path_in self.old gfid p.now) }
+        requires frozen { IsTrue (attr (path_in self.old gfid p.now)).frozen }
+        ensures want { IfErr result (λ no. no ≡ BookNo.Want) }
+        ensures found { IfOk result (λ found. is_some found
+            ≡ not (some_lacks H.Hold room (held_at (path_in self.old gfid p.now)))) }
+        ensures replica { IfOk result (λ found. IfSome found
+            (IsReplica H.Hold room p.now (path_in self.old gfid p.now))) }
+        ensures asks { IfOk result (λ found. OnSome found (IsLooked (AsksFor H.Hold room
+            (pieces_named (held_at (path_in self.old gfid p.now)).fragments)) (path_in self.old gfid p.now) (path_in self.new gfid p.now))) }
+        ensures may_ask { IsLooked (MayAskFor H.Hold room
+            (pieces_named (held_at (path_in self.old gfid p.now)).fragments)) (path_in self.old gfid p.now) (path_in self.new gfid p.now) }
+        ensures others { Changes self.old self.new gfid p.now (path_in self.new gfid p.now) }
+        ensures holds { HasHolds H.is_ready H.piece H.bytes (path_in self.new gfid p.now) }
+    {
+        let copy = p.copy(alloc)?;
+        let path = p.as_bytes();
+        let Some(kept) = self.files.get_mut(FileName { gfid, path }) else {
+            unreachable!();
+        };
+        kept.replica(alloc, copy, room)
+    }
+
+    /// The holds of all pieces of the files of all paths: each piece that a path's file names gives
+    /// one hold, and there is no other.
+    pub fn into_holds(self, alloc: Global) -> Result<Vec<H>, Want>
+        requires { AllHaveHolds H.is_ready H.piece H.bytes self }
+        ensures { IfOk result (λ all. AreAllHolds H.piece self all.items) }
+    {
+        let mut holds = Vec::new(alloc);
+        for (_, path) in self.files {
+            path.into_holds(&mut holds)?;
+        }
+        Ok(holds)
     }
 
     /// The hold of a piece that a path's file names, to change. What is left behind the reference

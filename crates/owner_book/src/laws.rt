@@ -2,8 +2,9 @@
 
 ghost use Rattle.std.specs.Prelude.{[], ℕ, List};
 ghost use Rattle.fs_types.specs.Pieces.{Fragment};
-ghost use Rattle.owner_book.specs.Journals.{CommittedStands, CreatedStands, LentStands};
-ghost use Rattle.owner_book.specs.Journals.{LookedStands, StandsFor, TruncatedStands};
+ghost use Rattle.owner_book.specs.Journals.{CommittedStands, CreatedStands, FrozenByTheLast};
+ghost use Rattle.owner_book.specs.Journals.{LaminatedStands, LentStands, LookedStands};
+ghost use Rattle.owner_book.specs.Journals.{ReplicaShows, StandsFor, TruncatedStands};
 ghost use Rattle.owner_book.specs.Journals.{UnlinkedStands};
 ghost use Rattle.owner_book.specs.Kept.{no_path};
 ghost use Rattle.owner_book.specs.LookupLaws.{PartsAreInRange, PiecesAreOfRange, PinsAreOfRange};
@@ -12,16 +13,20 @@ ghost use Rattle.owner_book.specs.Lookups.{NameRange, parts_in};
 use fs_types::Hold;
 
 /// A path's file is the state of its journal: the marks of its bytes are those that the lines of
-/// the journal make, in their order, from none, over all lives of the path. A look-up adds no line
-/// and keeps that so, as does whatever is left behind the loan of a hold.
+/// the journal make, in their order, from none, over all lives of the path; and it is frozen exactly
+/// where the last line laminated it. A look-up adds no line and keeps that so, as does whatever is
+/// left behind the loan of a hold; and a replica of a frozen file shows that state.
 pub fn files_are_states_of_their_journals<H: Hold>()
     ensures none { StandsFor [] (no_path {H = H}) }
     ensures created { CreatedStands H }
     ensures committed { CommittedStands H.piece }
     ensures truncated { TruncatedStands H.piece }
+    ensures laminated { LaminatedStands H.piece }
     ensures unlinked { UnlinkedStands H }
+    ensures frozen { FrozenByTheLast H }
     ensures looked { LookedStands H.Hold }
     ensures lent { LentStands H }
+    ensures replicated { ReplicaShows H.Hold }
 {}
 
 /// What a look-up finds names exactly the marked bytes of its range: at each place of the range the

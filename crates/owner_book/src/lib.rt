@@ -10,7 +10,7 @@
 //! are two files. A path's version is the number of lines in its journal. Calls on one path leave
 //! every other as it is.
 //!
-//! **Calls.** Each but `new` takes a path, and asks and gives this:
+//! **Calls.** Each but `new` and `into_holds` takes a path, and asks and gives this:
 //!
 //! - `new` gives a book in which nothing was committed to any path.
 //! - `create` makes an empty file where there is none, and gives the version.
@@ -22,6 +22,8 @@
 //!   puts the push over the file, and then cuts it to that size, or extends it to it by bytes
 //!   that nobody wrote. It gives the version, what is told of the file, and the holds of exactly
 //!   those pieces, of the file and of the push, of which no byte is left.
+//! - `laminate` asks what `commit` does. It puts the push over the file as `commit` does, and
+//!   freezes it: after that only an `unlink` changes it. It gives what `commit` gives.
 //! - `unlink` asks that the path has its holds, `HasHolds`. It takes the file away, also a frozen
 //!   one, and gives the version, that there is no file, and the holds of all its pieces. The
 //!   journal goes on, so a file that is created there again has a later version.
@@ -29,6 +31,13 @@
 //!   the file, the fragments of a range, cut to it, and a pin of each piece that they name, once; a
 //!   piece whose hold has no room for a pin is `bare` in its place. A pin takes 1 from the room of
 //!   its hold, if that room has an end.
+//! - `replica` asks that the path has its holds, `HasHolds`, and that its file is frozen. It gives
+//!   the path, its version, the size, all fragments of the file, and a pin of each piece that they
+//!   name, once and in the order in which they name them first. Each pin has at least the room that
+//!   is asked for, and takes that and 1 more from the room of its hold, if that room has an end.
+//!   Where the hold of some piece has a room of at most what is asked, it gives nothing.
+//! - `into_holds` asks that all paths have their holds, `AllHaveHolds`. It gives up the book for
+//!   its holds: of each path those of its file, one of each piece, and no other.
 //! - `open` gives the version and what is told of the file, where there is one, and `attr` gives
 //!   both in any case. The fragments of a file end within its size. `journal` gives the lines.
 //! - `hold_of` lends the hold of one piece, to read or to change, or gives none where the file
@@ -41,7 +50,9 @@
 //! **Refusals.** `BookNo` says why a call is refused, by the path's own file and version: it
 //! exists, there is none, it is frozen, or, where none of these holds, memory ran out. After a
 //! refusal the book is as before, and a push comes back; only a `lookup` that ran out of memory may
-//! have lowered the rooms of holds in its range, each by no more than one pin takes.
+//! have lowered the rooms of holds in its range, each by no more than one pin takes, and so may a
+//! `replica` that did, or that gave nothing, those of the file's holds. An `into_holds` that ran out
+//! of memory has let go of the book.
 //!
 //! **What a caller owes.** `HasHolds` says of a path that each piece of its file, and no other, has
 //! a hold that is ready, of that piece, and as long as the fragments need. That is so in a new
@@ -51,7 +62,8 @@
 //! that its holds are ready; and that its pieces are new to the file.
 //!
 //! **Laws.** A file is the state of its journal: each byte bears the mark that its lines make, in
-//! their order; a look-up and a lent hold keep that so. A look-up names exactly the marked bytes of
+//! their order, and it is frozen exactly where the last of them laminated it; a look-up and a lent
+//! hold keep that so, and a replica shows that state. A look-up names exactly the marked bytes of
 //! its range, in order of place, and finds each piece of the range once.
 //!
 //! An example:
@@ -71,11 +83,15 @@
 //! let none = Push { frags: Vec::new(alloc), holds: Vec::new(alloc) };
 //! let cut = book.trunc(alloc, 7, &path, LineNo(5), 2, none).ok().ok_or("there is memory")?;
 //! // version 3, a file of 2 bytes, and no dead hold, since these are of the piece
-//! let gone = book.unlink(alloc, 7, &path, LineNo(6))?;
-//! // version 4, no file, and the hold of the piece
+//! let none = Push { frags: Vec::new(alloc), holds: Vec::new(alloc) };
+//! let last = book.laminate(alloc, 7, &path, LineNo(6), none).ok().ok_or("there is memory")?;
+//! // version 4, a frozen file of 2 bytes, and no dead hold
+//! let gone = book.unlink(alloc, 7, &path, LineNo(7))?;
+//! // version 5, no file, and the hold of the piece
 //! ```
 #![tactic(auto)]
 
+mod after_push;
 mod book;
 mod book_no;
 mod committed;

@@ -1,13 +1,17 @@
 //! Parts of fragments in a range, the pieces that they name, and pins of those.
 
-ghost use Rattle.std.specs.Prelude.{List, ◌≡◌, ◌≤◌, ◌<◌, ◌+◌, [], ◌∷◌, All, AllPairs, Some, IsSome, IfOk};
+ghost use Rattle.std.specs.Prelude.{List, ◌≡◌, ◌↔◌, ◌≤◌, ◌<◌, ◌+◌, [], ◌∷◌, All, AllPairs};
+ghost use Rattle.std.specs.Prelude.{Some, IsSome, IfOk, IsErrOf, IsTrue, true};
 ghost use Rattle.std.specs.Prelude.{OnOk, OnErr, IfSome, MatchOption, length, vec_len};
 ghost use Rattle.std.specs.Prelude.{vec_capacity, false};
+ghost use Rattle.std.specs.List.{list_any};
 ghost use Rattle.fs_types.specs.Fragments.{end_of, piece_eq};
 ghost use Rattle.fs_types.specs.Pieces.{Fragment};
 ghost use Rattle.span_list.specs.Spans.{AreSpans, IsSpan, next_fragment};
 ghost use Rattle.piece_table.specs.HeldSpans.{AreHeld, held};
 ghost use Rattle.owner_book.specs.Lookups.{Asks, AsksOne, MayAsk, Pins, parts_in, pieces_named};
+ghost use Rattle.owner_book.specs.Lookups.{ArePinned, AsksFor, HoldsBecome, IsPinWith, IsRefused};
+ghost use Rattle.owner_book.specs.Lookups.{MayAskFor, lacks_room};
 
 use fs_types::{Frag, Hold, PieceId, PinNo, Want};
 use indexmap::IndexSet;
@@ -59,6 +63,30 @@ pub fn pieces(alloc: Global, frags: &[Frag]) -> Result<IndexSet<PieceId>, Want>
     Ok(pieces)
 }
 
+// A pin of a piece that is there, with at least so much room.
+fn pin_of<H: Hold + Drop, S: Spans>(
+    kept: &mut HeldSpans<H, S>,
+    p: PieceId,
+    given: u64,
+) -> Result<H, PinNo>
+    requires held { AreHeld H.is_ready H.piece H.bytes (held kept.old) }
+    requires there { IsSome ((held kept.old).hold_of p) }
+    ensures no_room { IsErrOf result PinNo.NoRoom
+        ↔ IsTrue (lacks_room H.Hold given (held kept.old) p) }
+    ensures piece { IfOk result (λ pin. H.piece pin ≡ p) }
+    ensures pin { IfOk result (IsPinWith H.Hold given (held kept.old)) }
+    ensures asks { OnOk result
+        (AsksFor H.Hold given (p ∷ []) (held kept.old) (held kept.new)) }
+    ensures refused { OnErr result
+        (HoldsBecome (IsRefused H.Hold) (p ∷ []) (held kept.old) (held kept.new)) }
+    ensures held { AreHeld H.is_ready H.piece H.bytes (held kept.new) }
+{
+    let Some(hold) = kept.hold_of(p) else {
+        unreachable!();
+    };
+    hold.pin(given)
+}
+
 // Pins a piece, or notes that it is bare, where there is room for either.
 fn pin_one<H: Hold + Drop, S: Spans>(
     kept: &mut HeldSpans<H, S>,
@@ -79,10 +107,7 @@ fn pin_one<H: Hold + Drop, S: Spans>(
     ensures may_ask { OnErr result (MayAsk H.Hold (p ∷ []) (held kept.old) (held kept.new)) }
     ensures held { AreHeld H.is_ready H.piece H.bytes (held kept.new) }
 {
-    let Some(hold) = kept.hold_of(p) else {
-        unreachable!();
-    };
-    match hold.pin(0) {
+    match pin_of(kept, p, 0) {
         Ok(pin) => holds.push_reserved(pin),
         Err(PinNo::NoRoom) => bare.push_reserved(p),
         Err(PinNo::Want) => return Err(Want),
@@ -112,6 +137,35 @@ pub fn pin_all<H: Hold + Drop, S: Spans>(
 {
     for p in pieces {
         pin_one(kept, *p, holds, bare)?;
+    }
+    Ok(())
+}
+
+/// Pins the pieces, of which each is there once, with at least so much room each, up to the first
+/// whose hold has too little. After a refusal some of them have been asked for pins.
+pub fn pin_each<H: Hold + Drop, S: Spans>(
+    kept: &mut HeldSpans<H, S>,
+    pieces: &[PieceId],
+    given: u64,
+    pins: &mut Vec<H>,
+) -> Result<(), PinNo>
+    requires held { AreHeld H.is_ready H.piece H.bytes (held kept.old) }
+    requires there { All (λ q. IsSome ((held kept.old).hold_of q)) pieces.now }
+    requires once { AllPairs (λ p q. piece_eq p q ≡ false) pieces.now }
+    requires none { pins.old.items ≡ [] }
+    requires room { length pieces.now ≤ vec_capacity pins.old }
+    ensures pins { OnOk result
+        (ArePinned H.Hold given (held kept.old) pieces.now pins.new.items) }
+    ensures has_room { OnOk result
+        (list_any (lacks_room H.Hold given (held kept.old)) pieces.now ≡ false) }
+    ensures no_room { IsErrOf result PinNo.NoRoom
+        → list_any (lacks_room H.Hold given (held kept.old)) pieces.now ≡ true }
+    ensures asks { OnOk result (AsksFor H.Hold given pieces.now (held kept.old) (held kept.new)) }
+    ensures may_ask { MayAskFor H.Hold given pieces.now (held kept.old) (held kept.new) }
+    ensures held { AreHeld H.is_ready H.piece H.bytes (held kept.new) }
+{
+    for p in pieces {
+        pins.push_reserved(pin_of(kept, *p, given)?);
     }
     Ok(())
 }

@@ -1,22 +1,25 @@
 //! A file at its owner.
 
 ghost use Rattle.std.specs.Prelude.{◌≡◌, ◌≤◌, ◌+◌, [], All, IsTrue, None, length};
-ghost use Rattle.std.specs.Prelude.{IfErr, IfOk, IfSome, OnErr, OnOk, OnSome};
+ghost use Rattle.std.specs.Prelude.{IfErr, IfOk, IfSome, OnErr, OnOk, OnSome, is_some, not};
 ghost use Rattle.std.specs.Prelude.{vec_capacity, vec_len};
 ghost use Rattle.std.specs.Borrow.{sem};
 ghost use Rattle.std.specs.Option.{option_copied_mut};
 ghost use Rattle.fs_types.specs.Fragments.{IsWellFormedPush};
 ghost use Rattle.fs_types.specs.declared.limits.TheConstants.{LONGEST_FILE};
-ghost use Rattle.piece_table.specs.HeldSpans.{AreGone, AreHeld};
+ghost use Rattle.piece_table.specs.HeldSpans.{AreGone, AreHeld, HandsOver};
+ghost use Rattle.owner_book.specs.Changes.{IfResize, file_changed, held_before};
 ghost use Rattle.owner_book.specs.Commits.{size_after};
 ghost use Rattle.owner_book.specs.Kept.{AreWithin, attr_of, empty_file, file_of, none_held};
 ghost use Rattle.owner_book.specs.HoldLends.{lends_in_file};
-ghost use Rattle.owner_book.specs.Lookups.{Asks, MayAsk, Pins, parts_in, pieces_named};
-ghost use Rattle.owner_book.specs.Truncations.{file_changed, held_before};
+ghost use Rattle.owner_book.specs.Lookups.{ArePinned, Asks, AsksFor, MayAsk, MayAskFor, Pins};
+ghost use Rattle.owner_book.specs.Lookups.{parts_in, pieces_named};
+ghost use Rattle.owner_book.specs.Replicas.{some_lacks};
 
+use crate::after_push::AfterPush;
 use crate::looked::Found;
-use crate::looking::{parts, pieces, pin_all};
-use fs_types::{Attr, Frag, Hold, PieceId, Push, Want};
+use crate::looking::{parts, pieces, pin_all, pin_each};
+use fs_types::{Attr, Frag, Hold, LONGEST_FILE, PieceId, PinNo, Push, Want};
 use piece_table::HeldSpans;
 use span_list::Spans;
 use std::alloc::Global;
@@ -77,52 +80,57 @@ impl<H: Hold + Drop, S: Spans> OwnedFile<H, S> {
     }
 
     // An empty list of holds, with room for those of all pieces where the file is to be cut.
-    fn no_dead(&self, alloc: Global, push: &Push<H>, size: Option<u64>) -> Result<Vec<H>, Want>
+    fn no_dead(&self, alloc: Global, push: &Push<H>, after: AfterPush) -> Result<Vec<H>, Want>
         ensures none { IfOk result (λ dead. dead.items ≡ []) }
-        ensures room { IfOk result (λ dead. OnSome size
-            (length self.now.kept.pieces.entries + vec_len push.now.holds ≤ vec_capacity dead)) }
+        ensures room { IfOk result (λ dead. IfResize after (λ _.
+            length self.now.kept.pieces.entries + vec_len push.now.holds ≤ vec_capacity dead)) }
     {
-        if size.is_none() {
+        let AfterPush::Resize(_) = after else {
             return Ok(Vec::new(alloc));
-        }
+        };
         Ok(Vec::with_capacity(alloc, self.held.piece_count() + push.holds.len())?)
     }
 
-    /// Puts a push over the file, and then cuts or extends it to a size, where one is given. It
-    /// gives the holds of the pieces of which no byte is left. After want of memory the file is as
-    /// before, and the push is given back.
+    /// Puts a push over the file, and then does this with it. It gives the holds of the pieces of
+    /// which no byte is left. After want of memory the file is as before, and the push is given
+    /// back.
     pub fn put(
         &mut self,
         alloc: Global,
         push: Push<H>,
-        size: Option<u64>,
+        after: AfterPush,
     ) -> Result<Vec<H>, (Want, Push<H>)>
-        requires size { IfSome size (λ n. n ≤ LONGEST_FILE) }
+        requires size { IfResize after (λ n. n ≤ LONGEST_FILE) }
         requires held { AreHeld H.is_ready H.piece H.bytes (file_of self.old).held }
         requires well_formed { IsWellFormedPush H.piece H.bytes push }
         requires ready { All (λ h. IsTrue (H.is_ready h)) push.holds.items }
         requires new_pieces { All (λ h. (file_of self.old).held.hold_of (H.piece h) ≡ None)
             push.holds.items }
         ensures put { OnOk result
-            (file_of self.new ≡ file_changed H.piece push size (file_of self.old)) }
+            (file_of self.new ≡ file_changed H.piece push after (file_of self.old)) }
         ensures dead { IfOk result (λ dead. AreGone H.piece
-            (held_before H.piece push size (file_of self.old).held)
+            (held_before H.piece push after (file_of self.old).held)
             (file_of self.new).held dead.items) }
         ensures given_back { IfErr result (λ e. e.1 ≡ push) }
         ensures same { OnErr result (file_of self.new ≡ file_of self.old) }
         ensures held { AreHeld H.is_ready H.piece H.bytes (file_of self.new).held }
     {
         let size_put = size_after(self.size, &push.frags);
-        let Ok(mut dead) = self.no_dead(alloc, &push, size) else {
+        let Ok(mut dead) = self.no_dead(alloc, &push, after) else {
             return Err((Want, push));
         };
         self.held.put_push(push, &mut dead)?;
-        let Some(size) = size else {
-            self.size = size_put;
-            return Ok(dead);
-        };
-        self.held.cut(size, &mut dead).unwrap();
-        self.size = size;
+        match after {
+            AfterPush::Leave => self.size = size_put,
+            AfterPush::Resize(size) => {
+                self.held.cut(size, &mut dead).unwrap();
+                self.size = size;
+            }
+            AfterPush::Freeze => {
+                self.size = size_put;
+                self.frozen = true;
+            }
+        }
         Ok(dead)
     }
 
@@ -137,6 +145,17 @@ impl<H: Hold + Drop, S: Spans> OwnedFile<H, S> {
         let mut dead = Vec::new(alloc);
         self.held.clear(&mut dead)?;
         Ok(dead)
+    }
+
+    /// Adds the holds of its pieces to others.
+    pub fn into_holds(mut self, holds: &mut Vec<H>) -> Result<(), Want>
+    where
+        S: Drop,
+        requires held { AreHeld H.is_ready H.piece H.bytes (file_of self).held }
+        ensures { OnOk result (HandsOver H.piece (file_of self).held none_held
+            holds.old.items holds.new.items) }
+    {
+        self.held.clear(holds)
     }
 
     /// The parts of the file in a range, and a pin of each piece that they name, or the piece alone
@@ -164,6 +183,37 @@ impl<H: Hold + Drop, S: Spans> OwnedFile<H, S> {
         let mut bare = Vec::with_capacity(alloc, pieces.len())?;
         pin_all(&mut self.held, pieces.as_slice(), &mut holds, &mut bare)?;
         Ok(Found { frags, holds, bare })
+    }
+
+    /// All fragments of the file, and a pin of each piece that they name with at least so much room,
+    /// or nothing where the hold of one has too little. Some of those holds may have been asked for
+    /// pins then, as after want of memory.
+    pub fn whole(&mut self, alloc: Global, given: u64) -> Result<Option<(Vec<Frag>, Vec<H>)>, Want>
+        requires held { AreHeld H.is_ready H.piece H.bytes (file_of self.old).held }
+        ensures found { IfOk result (λ found.
+            is_some found ≡ not (some_lacks H.Hold given (file_of self.old).held)) }
+        ensures frags { IfOk result (λ found. IfSome found (λ whole.
+            whole.0.items ≡ (file_of self.old).held.fragments)) }
+        ensures pins { IfOk result (λ found. IfSome found (λ whole. ArePinned H.Hold given
+            (file_of self.old).held (pieces_named whole.0.items) whole.1.items)) }
+        ensures asks { IfOk result (λ found. OnSome found (AsksFor H.Hold given
+            (pieces_named (file_of self.old).held.fragments)
+            (file_of self.old).held (file_of self.new).held)) }
+        ensures may_ask { MayAskFor H.Hold given
+            (pieces_named (file_of self.old).held.fragments)
+            (file_of self.old).held (file_of self.new).held }
+        ensures size { (file_of self.new).size ≡ (file_of self.old).size }
+        ensures frozen { (file_of self.new).frozen ≡ (file_of self.old).frozen }
+        ensures held { AreHeld H.is_ready H.piece H.bytes (file_of self.new).held }
+    {
+        let frags = parts(alloc, &self.held, 0, LONGEST_FILE)?;
+        let pieces = pieces(alloc, &frags)?;
+        let mut pins = Vec::with_capacity(alloc, pieces.len())?;
+        match pin_each(&mut self.held, pieces.as_slice(), given, &mut pins) {
+            Ok(()) => Ok(Some((frags, pins))),
+            Err(PinNo::NoRoom) => Ok(None),
+            Err(PinNo::Want) => Err(Want),
+        }
     }
 
     /// The hold of a piece that the file names, to change. What is left behind the reference is the

@@ -1,24 +1,27 @@
 //! A path at its owner.
 
 ghost use Rattle.std.specs.Prelude.{◌≡◌, ◌≤◌, ◌+◌, length, None};
-ghost use Rattle.std.specs.Prelude.{IfErr, IfOk, IfSome, OnErr, OnOk};
+ghost use Rattle.std.specs.Prelude.{IfErr, IfOk, IfSome, IsTrue, OnErr, OnOk, OnSome, is_some, not};
 ghost use Rattle.std.specs.Borrow.{sem};
 ghost use Rattle.std.specs.Option.{option_copied_mut};
 ghost use Rattle.fs_types.specs.declared.limits.TheConstants.{LONGEST_FILE};
-ghost use Rattle.piece_table.specs.HeldSpans.{AreGone};
-ghost use Rattle.owner_book.specs.Kept.{AreWithin, held_at, no_path, path_of};
+ghost use Rattle.piece_table.specs.HeldSpans.{AreGone, HandsOver};
+ghost use Rattle.owner_book.specs.Kept.{AreWithin, held_at, no_path, none_held, path_of};
 ghost use Rattle.owner_book.specs.Calls.{AnswersBy, attr, created, opened, version, without_file};
 ghost use Rattle.owner_book.specs.Calls.{change_refusal, create_refusal, no_file_refusal};
+ghost use Rattle.owner_book.specs.Changes.{IfResize, changed, held_before};
 ghost use Rattle.owner_book.specs.Commits.{AreDead, HasHolds, MayCommit};
 ghost use Rattle.owner_book.specs.HoldLends.{lends_in_path};
-ghost use Rattle.owner_book.specs.Lookups.{Asks, IsLooked, MayAsk, Pins, parts_in, pieces_named};
-ghost use Rattle.owner_book.specs.Truncations.{changed, held_before};
+ghost use Rattle.owner_book.specs.Lookups.{Asks, AsksFor, IsLooked, MayAsk, MayAskFor, Pins};
+ghost use Rattle.owner_book.specs.Lookups.{parts_in, pieces_named};
+ghost use Rattle.owner_book.specs.Replicas.{IsReplica, some_lacks};
 
+use crate::after_push::AfterPush;
 use crate::book_no::BookNo;
 use crate::committed::Committed;
 use crate::looked::{Found, Looked};
 use crate::owned_file::OwnedFile;
-use fs_types::{Attr, Hold, LineNo, PieceId, Push, Version};
+use fs_types::{Attr, Hold, LineNo, Path, PieceId, Push, Replica, Version, Want};
 use span_list::Spans;
 use std::alloc::Global;
 use std::marker::Model;
@@ -112,25 +115,25 @@ impl<H: Hold + Drop, S: Spans + Drop> OwnedPath<H, S> {
         Ok(self.version())
     }
 
-    /// Commits a line that puts a push over the file, and then cuts or extends it to a size, where
-    /// one is given. After a refusal the path is as before, and the push is given back.
+    /// Commits a line that puts a push over the file, and then does this with it. After a refusal
+    /// the path is as before, and the push is given back.
     pub fn change(
         &mut self,
         alloc: Global,
         line: LineNo,
         push: Push<H>,
-        size: Option<u64>,
+        after: AfterPush,
     ) -> Result<Committed<H>, (BookNo, Push<H>)>
-        requires size { IfSome size (λ n. n ≤ LONGEST_FILE) }
+        requires size { IfResize after (λ n. n ≤ LONGEST_FILE) }
         requires holds { HasHolds H.is_ready H.piece H.bytes (path_of self.old) }
         requires push { MayCommit H.is_ready H.piece H.bytes push (path_of self.old) }
         ensures answer { AnswersBy (λ e. e.0) (change_refusal (path_of self.old)) result }
         ensures version { IfOk result (λ c. c.v ≡ version (path_of self.new)) }
         ensures attr { IfOk result (λ c. c.attr ≡ attr (path_of self.new)) }
         ensures changed { OnOk result
-            (path_of self.new ≡ changed H.piece line push size (path_of self.old)) }
+            (path_of self.new ≡ changed H.piece line push after (path_of self.old)) }
         ensures dead { IfOk result (λ c. AreGone H.piece
-            (held_before H.piece push size (held_at (path_of self.old)))
+            (held_before H.piece push after (held_at (path_of self.old)))
             (held_at (path_of self.new)) c.dead.items) }
         ensures given_back { IfErr result (λ e. e.1 ≡ push) }
         ensures same { OnErr result (path_of self.new ≡ path_of self.old) }
@@ -146,7 +149,7 @@ impl<H: Hold + Drop, S: Spans + Drop> OwnedPath<H, S> {
         if self.journal.reserve(1).is_err() {
             return Err((BookNo::Want, push));
         }
-        match file.put(alloc, push, size) {
+        match file.put(alloc, push, after) {
             Ok(dead) => {
                 self.journal.push_reserved(line);
                 Ok(Committed {
@@ -216,6 +219,57 @@ impl<H: Hold + Drop, S: Spans + Drop> OwnedPath<H, S> {
             holds,
             bare,
         })
+    }
+
+    /// A replica of the file, which is frozen, at this path, or nothing where the hold of some piece
+    /// has too little room for a pin with so much.
+    pub fn replica(
+        &mut self,
+        alloc: Global,
+        path: Path,
+        given: u64,
+    ) -> Result<Option<Replica<H>>, BookNo>
+        requires holds { HasHolds H.is_ready H.piece H.bytes (path_of self.old) }
+        requires frozen { IsTrue (attr (path_of self.old)).frozen }
+        ensures want { IfErr result (λ no. no ≡ BookNo.Want) }
+        ensures found { IfOk result (λ found. is_some found
+            ≡ not (some_lacks H.Hold given (held_at (path_of self.old)))) }
+        ensures replica { IfOk result (λ found. IfSome found
+            (IsReplica H.Hold given path (path_of self.old))) }
+        ensures asks { IfOk result (λ found. OnSome found (IsLooked (AsksFor H.Hold given
+            (pieces_named (held_at (path_of self.old)).fragments)) (path_of self.old) (path_of self.new))) }
+        ensures may_ask { IsLooked (MayAskFor H.Hold given
+            (pieces_named (held_at (path_of self.old)).fragments)) (path_of self.old) (path_of self.new) }
+        ensures holds { HasHolds H.is_ready H.piece H.bytes (path_of self.new) }
+    {
+        let version = self.version();
+        let Some(file) = &mut self.file else {
+            unreachable!();
+        };
+        let size = file.size;
+        let Some((frags, holds)) = file.whole(alloc, given)? else {
+            return Ok(None);
+        };
+        Ok(Some(Replica {
+            path,
+            version,
+            size,
+            frags,
+            holds,
+        }))
+    }
+
+    /// Adds the holds of the file's pieces to others.
+    pub fn into_holds(self, holds: &mut Vec<H>) -> Result<(), Want>
+        requires holds { HasHolds H.is_ready H.piece H.bytes (path_of self) }
+        ensures { OnOk result (HandsOver H.piece (held_at (path_of self)) none_held
+            holds.old.items holds.new.items) }
+    {
+        let OwnedPath { file, .. } = self;
+        match file {
+            Some(file) => file.into_holds(holds),
+            None => Ok(()),
+        }
     }
 
     /// The hold of a piece that the file names, to change.

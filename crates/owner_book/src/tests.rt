@@ -2,6 +2,7 @@ ghost use Rattle.std.specs.Prelude.{◌≡◌, true, All, IfOk, OnOk};
 ghost use Rattle.fs_types.specs.Fragments.{IsWellFormedPush};
 ghost use Rattle.owner_book.specs.Commits.{AllHaveHolds};
 
+mod frozen;
 mod lives;
 mod pushes;
 

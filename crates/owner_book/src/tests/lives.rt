@@ -7,38 +7,38 @@ ghost use Rattle.owner_book.specs.Commits.{AllHaveHolds};
 
 use super::pushes::book_of_two;
 use super::*;
-use crate::owned_file::OwnedFile;
-use crate::owned_path::OwnedPath;
-use piece_table::HeldSpans;
 
 // A call on a path. What it puts there is all of one new piece, by its place and its length.
 #[derive(Clone, Copy)]
-enum Call {
+pub enum Call {
     Create,
     Commit(u64, u32),
     Trunc(u64, Option<(u64, u32)>),
+    Laminate(Option<(u64, u32)>),
     Unlink,
 }
 
-// What a call answers: the version, and how many bytes the file has or that there is none; or that
-// it is refused at this version, since there is none.
+// What a call answers: the version, and how many bytes the file has, frozen or not, or that there is
+// none; or that it is refused at this version, since there is none or it is frozen.
 #[derive(Clone, Copy)]
-enum Answer {
+pub enum Answer {
     File(u64, u64),
+    Frozen(u64, u64),
     NoFile(u64),
     Absent(u64),
+    ReadOnly(u64),
 }
 
 // A line's call, its answer, and the lines of the holds that come out.
 #[derive(Drop)]
-struct Case<'a> {
+pub struct Case<'a> {
     line: u32,
     call: Call,
     answer: Answer,
     dead: &'a [u32],
 }
 
-fn answered(line: u32, call: Call, answer: Answer, dead: &[u32]) -> Case<'_> {
+pub fn answered(line: u32, call: Call, answer: Answer, dead: &[u32]) -> Case<'_> {
     Case {
         line,
         call,
@@ -112,6 +112,34 @@ fn trunc(
     }
 }
 
+// Laminates a path's file, with a push of all of one piece that is new to it, or an empty push. What
+// is refused comes back.
+fn laminate(
+    alloc: Global,
+    book: &mut Book,
+    path: &Path,
+    line: u32,
+    put: Option<(u64, u32)>,
+) -> Result<Result<Committed<MemHold>, BookNo>, Fail>
+    requires { AllHaveHolds (λ _. true) (λ h. h.piece) (λ h. h.bytes) book.old }
+    ensures { OnOk result (AllHaveHolds (λ _. true) (λ h. h.piece) (λ h. h.bytes) book.new) }
+{
+    if let Some(_) = book.hold_of(GFID, path, piece(line)) {
+        return Err("the piece is there".into());
+    }
+    let push = push_or_none(alloc, line, put)?;
+    let (frags, holds) = (push.frags.len(), push.holds.len());
+    match book.laminate(alloc, GFID, path, LineNo(line), push) {
+        Ok(done) => Ok(Ok(done)),
+        Err((no, push)) => {
+            if push.frags.len() != frags || push.holds.len() != holds {
+                return Err("the push is lost".into());
+            }
+            Ok(Err(no))
+        }
+    }
+}
+
 // Makes a call. What is refused comes back.
 fn make(
     alloc: Global,
@@ -127,6 +155,7 @@ fn make(
         Call::Create => Ok(create(alloc, book, path, line)),
         Call::Commit(at, len) => commit(alloc, book, path, line, at, len, None),
         Call::Trunc(size, put) => trunc(alloc, book, path, line, size, put),
+        Call::Laminate(put) => laminate(alloc, book, path, line, put),
         Call::Unlink => Ok(book.unlink(alloc, GFID, path, LineNo(line))),
     }
 }
@@ -139,11 +168,17 @@ fn assert_answer(
     case: &Case<'_>,
 ) -> Result<(), Fail> {
     let line = case.line;
-    let (version, exists, size) = match case.answer {
-        Answer::File(version, size) => (version, true, size),
-        Answer::NoFile(version) => (version, false, 0),
+    let (version, exists, size, frozen) = match case.answer {
+        Answer::File(version, size) => (version, true, size, false),
+        Answer::Frozen(version, size) => (version, true, size, true),
+        Answer::NoFile(version) => (version, false, 0, false),
         Answer::Absent(version) => {
             let no = BookNo::NoEnt(Version(version));
+            assert_eq!(rt; found.err(), Some(no), "line {line}");
+            return Ok(());
+        }
+        Answer::ReadOnly(version) => {
+            let no = BookNo::ReadOnly(Version(version));
             assert_eq!(rt; found.err(), Some(no), "line {line}");
             return Ok(());
         }
@@ -154,7 +189,7 @@ fn assert_answer(
     let attr = Attr {
         exists,
         size,
-        frozen: false,
+        frozen,
     };
     assert_eq!(rt;
         (done.v, done.attr),
@@ -167,7 +202,7 @@ fn assert_answer(
 }
 
 // The lines make their calls on a path, one after the other.
-fn assert_calls(
+pub fn assert_calls(
     rt: &impl Abort,
     alloc: Global,
     book: &mut Book,
@@ -259,29 +294,5 @@ fn versions_go_on_after_an_unlink(rt: HostRuntime) -> Result<(), Fail> {
     assert_finds(&rt, alloc, book, (&b, 0, 9), (2, 4), &whole, (&[5], &[]))?;
     let last = [answered(21, Call::Unlink, Answer::NoFile(3), &[5])];
     assert_calls(&rt, alloc, book, &b, &last)?;
-    Ok(())
-}
-
-#[test]
-fn a_frozen_file_is_unlinked_and_not_changed(rt: HostRuntime) -> Result<(), Fail> {
-    let alloc = rt.alloc();
-    let file = OwnedFile {
-        held: HeldSpans::new(alloc),
-        size: 0,
-        frozen: true,
-    };
-    let mut path: OwnedPath<MemHold, SpanList> = OwnedPath {
-        journal: Vec::new(alloc),
-        file: Some(file),
-    };
-    let push = push_of(alloc, 4, 0, 4, None)?;
-    let Err((no, push)) = path.change(alloc, LineNo(4), push, Some(2)) else {
-        return Err("it is changed".into());
-    };
-    assert_eq!(rt; no, BookNo::ReadOnly(Version(0)));
-    assert_eq!(rt; (push.frags.len(), push.holds.len()), (1, 1));
-    let done = path.unlink(alloc, LineNo(5))?;
-    assert_eq!(rt; done.v, Version(1));
-    assert!(rt; !done.attr.exists);
     Ok(())
 }

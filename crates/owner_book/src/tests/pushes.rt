@@ -49,8 +49,19 @@ fn the_example_at_the_head_of_the_crate(rt: HostRuntime) -> Result<(), Fail> {
         .ok_or("there is memory")?;
     assert_eq!(rt; (cut.v, cut.attr), (Version(3), file(2)));
     assert!(rt; cut.dead.is_empty());
-    let gone = book.unlink(alloc, 7, &path, LineNo(6))?;
-    assert_eq!(rt; gone.v, Version(4));
+    let none = Push {
+        frags: Vec::new(alloc),
+        holds: Vec::new(alloc),
+    };
+    let last = book
+        .laminate(alloc, 7, &path, LineNo(6), none)
+        .ok()
+        .ok_or("there is memory")?;
+    assert_eq!(rt; last.v, Version(4));
+    assert_eq!(rt; (last.attr.size, last.attr.frozen), (2, true));
+    assert!(rt; last.dead.is_empty());
+    let gone = book.unlink(alloc, 7, &path, LineNo(7))?;
+    assert_eq!(rt; gone.v, Version(5));
     assert!(rt; !gone.attr.exists);
     assert_eq!(rt; lines(alloc, &gone.dead)?.as_slice(), [4].as_slice());
     Ok(())

@@ -34,6 +34,6 @@ returns-in_err-pin_one-clause-may_ask g c =
     let p = c.p-item.result in
     let k = c.loop-p.p-index in
     let ps = c.args.pieces.now in
-    after-refusal c.from_residual.result (may-ask g.H.Hold (held c.args.kept.now) (held c.loop-p.kept) (held c.pin_one.new.kept) ps k p
+    after-refusal c.from_residual.result (may-ask g.H.Hold 0 (held c.args.kept.now) (held c.loop-p.kept) (held c.pin_one.new.kept) ps k p
     c.loop-p.invariant.asks c.in_err-pin_one.ensures.may_ask (fresh ps k p c.p-item.is c.loop-p-test.true c.requires.once)
     (one-there ps k p c.p-item.is c.loop-p-test.true))

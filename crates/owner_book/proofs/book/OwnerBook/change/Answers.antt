@@ -3,9 +3,9 @@ use Rattle.fs_types.proofs.Common.{◌∙◌, ap, sym, subst}
 use Rattle.std.specs.Option.{option_copied_mut}
 use Rattle.piece_table.specs.HeldSpans.{AreGone}
 use Rattle.owner_book.specs.Calls.{AnswersBy, attr, change_refusal, version}
+use Rattle.owner_book.specs.Changes.{changed, held_before}
 use Rattle.owner_book.specs.Commits.{HasHolds, MayCommit}
 use Rattle.owner_book.specs.Kept.{held_at}
-use Rattle.owner_book.specs.Truncations.{changed, held_before}
 use Rattle.owner_book.proofs.Paths.{found-there, lent-both, lent-changed, lent-is, lent-same, IfOk-map, OnErr-map, OnOk-map}
 use Rattle.owner_book.proofs.book.OwnerBook.change.Goals as goal
 
@@ -30,9 +30,9 @@ returns g c =
       answer = subst (λ x. AnswersBy (λ e. e.0) (change_refusal x) done) (sym lent.was_is) c.change.ensures.answer;
       version = IfOk-map done (λ d e. e ∙ ap version (sym lent.now_is)) c.change.ensures.version;
       attr = IfOk-map done (λ d e. e ∙ ap attr (sym lent.now_is)) c.change.ensures.attr;
-      changed = OnOk-map done (lent-changed lent (changed g.H.Hold.piece c.args.line c.args.push c.args.size)) c.change.ensures.changed;
+      changed = OnOk-map done (lent-changed lent (changed g.H.Hold.piece c.args.line c.args.push c.args.after)) c.change.ensures.changed;
       dead = IfOk-map done (λ d. lent-both lent (λ x y. AreGone g.H.Hold.piece
-          (held_before g.H.Hold.piece c.args.push c.args.size (held_at x)) (held_at y) d.dead.items)) c.change.ensures.dead;
+          (held_before g.H.Hold.piece c.args.push c.args.after (held_at x)) (held_at y) d.dead.items)) c.change.ensures.dead;
       given_back = c.change.ensures.given_back;
       same = OnErr-map done (lent-same lent) c.change.ensures.same;
       holds = subst (HasHolds g.H.Hold.is_ready g.H.Hold.piece g.H.Hold.bytes) (sym lent.now_is) c.change.ensures.holds;
