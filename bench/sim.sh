@@ -139,6 +139,32 @@ pieces() {
     }'
 }
 
+# A job of eight clients over four servers, of about so many lines over eight files, one for each
+# client. In each round each client writes up to 9,000 bytes to its file and syncs it, and after a
+# barrier it opens the file of the next client and reads it whole. At the end each file is frozen.
+load() {
+    awk -v lines="$1" 'BEGIN {
+        clients = 8
+        rounds = int((lines - 18) / 34)
+        print "unifyfs 1 servers=4 clients=8 chunk=4096 shmem=256 spill=0"
+        for (r = 0; r < clients; r++) printf "%d create /unifyfs/f%d\n", r, r
+        print "barrier"
+        for (k = 1; k <= rounds; k++) {
+            for (r = 0; r < clients; r++) {
+                printf "%d write /unifyfs/f%d %d p:%d:%d\n", r, r, 1000 * (k % 16), k, 1 + (37 * k + 11 * r) % 9000
+                printf "%d sync /unifyfs/f%d\n", r, r
+            }
+            print "barrier"
+            for (r = 0; r < clients; r++) {
+                printf "%d open /unifyfs/f%d\n", r, (r + 1) % clients
+                printf "%d read /unifyfs/f%d 0 16384\n", r, (r + 1) % clients
+            }
+            print "barrier"
+        }
+        for (r = 0; r < clients; r++) printf "%d laminate /unifyfs/f%d\n", r, r
+    }'
+}
+
 # A job of one client with a file of so many fragments of 64 bytes, each 64 bytes behind the one before
 # it, and with so many reads, of one fragment each.
 reads() {
@@ -256,6 +282,8 @@ times() {
 }
 
 times one_client 1.3 64 1000 2000 4000 8000
+# 58 rounds and 234.
+times load 1.3 64 1990 7974
 # The last job of `reuse` has 60,000 writes, that of `pieces` 20,000 reads.
 times phases 1.3 64 8000 60000
 times reuse 1.3 64 8000 60000 65010

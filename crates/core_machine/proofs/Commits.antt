@@ -9,6 +9,7 @@ use Rattle.fs_types.specs.Fragments.{piece_eq}
 use Rattle.slot_plain.specs.Log.{Log}
 use Rattle.fs_script.specs.Vocabulary.{Job, Piece}
 use Rattle.fs_script.proofs.CallerLemmas.{some_of}
+use Rattle.fs_script.proofs.PlainLists.{none_from-is_some}
 use Rattle.span_list.proofs.CallerLemmas.{AllPairs-append, AllPairs-nil}
 use Rattle.piece_table.specs.HeldSpans.{AreGone, Cuts, Held, PutsAll, is_named}
 use Rattle.piece_table.proofs.CallerLemmas.{same_piece}
@@ -145,6 +146,27 @@ module _ (over old : Held PlainHold) (pending : AreHeldPlain over)
   was-over : (q : Piece) (h : PlainHold) → over.hold_of q ≡ Some h → (beside over old).hold_of q ≡ Some h
   was-over q h is =
       cond-true (is_named over.fragments q) (over.hold_of q) (old.hold_of q) (sym (pending.named q) ∙ ap is_some is) ∙ is
+
+  -- where the file stays, each piece that it names has the hold that it had
+  pub holds-same : AreHeldPlain old → (q : Piece) → old.hold_of q ≡ (if is_named old.fragments q then (beside over old).hold_of q else None)
+  holds-same is_held q = elim (cases_Bool (is_named old.fragments q)) [
+    | inl named ↦
+        let h = some_of (old.hold_of q) (is_held.named q ∙ named) in
+        h.1 ∙ sym (was-old q h.0 h.1) ∙ sym (cond-true (is_named old.fragments q) ((beside over old).hold_of q) None named)
+    | inr other ↦ none_from-is_some (old.hold_of q) (is_held.named q ∙ other)
+        ∙ sym (cond-false (is_named old.fragments q) ((beside over old).hold_of q) None other)
+  ]
+
+  -- and the holds of the pending ones went, where none of them is left
+  pub gone-dropped : AreHeldPlain old → (now : Held PlainHold) (gone : List PlainHold) → now.fragments ≡ []
+      → AreGone (λ (h : PlainHold). h.piece) over now gone → AreGone (λ (h : PlainHold). h.piece) over old gone
+  gone-dropped is_held now gone none are = record {
+    held = are.held;
+    unnamed = All-weaker (λ (h : PlainHold). over.hold_of h.piece ≡ Some h) (λ h. is_named old.fragments h.piece ≡ false)
+        (λ h had. sym (is_held.named h.piece) ∙ ap is_some (apart h.piece (ap is_some had))) gone are.held;
+    each = λ q h had other. are.each q h had (ap (λ fs. is_named fs q) none);
+    once = are.once;
+  }
 
   -- where none is left, the holds of both went
   pub gone-beside : (new : Held PlainHold) (dead gone : List PlainHold) → AreGone (λ (h : PlainHold). h.piece) old new dead

@@ -10,6 +10,7 @@ use Rattle.fs_types.specs.declared.attr.Attr.{Attr}
 use Rattle.fs_types.specs.declared.want.Want.{Want}
 use Rattle.slot_plain.specs.Log.{Log}
 use Rattle.fs_script.specs.Operations.{opens_path}
+use Rattle.fs_script.specs.AnswerKinds.{version_of}
 use Rattle.fs_script.specs.Vocabulary.{Job, Piece, after_answer, effect_of, marks_in, opens}
 use Rattle.fs_script.specs.declared.line.Op.{Op}
 use Rattle.piece_table.specs.HeldSpans.{is_named}
@@ -31,7 +32,7 @@ use Rattle.core_machine.specs.PlainHolds.{AreHeldPlain}
 use Rattle.core_machine.specs.declared.client.Client.{Client}
 use Rattle.core_machine.specs.declared.plain_hold.PlainHold.{PlainHold}
 use Rattle.core_machine.specs.declared.task.Task.TheVariants.{Idle}
-use Rattle.core_machine.proofs.Commits.{Empties, gone-beside, gone-none, gone-unnamed, kept-before, kept_held, leaves-emptied}
+use Rattle.core_machine.proofs.Commits.{Empties, gone-beside, gone-dropped, gone-none, holds-same, kept-before, leaves-emptied}
 use Rattle.core_machine.proofs.EventsFollow as follow
 use Rattle.core_machine.proofs.EventsFollow.{notes-none, notes-told, told-none}
 use Rattle.core_machine.proofs.HeldPieces.{pending-none}
@@ -84,27 +85,42 @@ module _ (s : Job) (n : ℕ) (op : Op) (r : ℕ) (x : OwnedPath) (k : ClientPath
       (follow.ends-answered s n op x k k answers.BadF event (notes-none x k Idle answers.BadF refl)
       (sym (ap (λ b. b || k.is_open) (and-false (opens_path op)))) lines refl before.whole.sound)
 
-  -- it finds no file, and what was pending is dropped
-  module _ (told : ℕ × Attr) (at : List ℕ → ClientPath) (new : List Log) (same : told ≡ (version x.path, attr x.path))
-      (absent : told.1.exists ≡ false)
-      (event : x.path.file ≡ None → (free : ℕ) → kept_event s x k free Idle op ≡ answered (answers.NoEnt (version x.path)))
-      (lines : (v : ℕ) → after_answer op (answers.NoEnt v) n (pending_lines k) ≡ []) where
+  -- it is refused by what its owner has of the path, and what was pending is dropped
+  module _ (refused : ℕ → Answer) (told : ℕ × Attr) (at : List ℕ → ClientPath) (new : List Log)
+      (same : told ≡ (version x.path, attr x.path))
+      (event : (free : ℕ) → kept_event s x k free Idle op ≡ answered (refused (version x.path)))
+      (lines : after_answer op (refused told.0) n (pending_lines k) ≡ []) (opened : opens op (refused told.0) ≡ false)
+      (prints : version_of (refused told.0) ≡ Some told.0)
+      (noted : at [] ≡ record k { pending = (at []).pending; noted = later_of k.noted (record { version = told.0; attr = told.1 }) })
+      (drops : DropsPending k.pending (at []).pending logs new) where
     abbrev l : ClientPath
     l = at []
 
-    none : x.path.file ≡ None
-    none = told-none told x.path same absent
+    file_held : AreHeldPlain (held_in x.path.file)
+    file_held = holds-there x.path.file before.whole.sound.written
 
-    dropped : l ≡ record k { pending = l.pending; noted = later_of k.noted (record { version = told.0; attr = told.1 }) }
-        → DropsPending k.pending l.pending logs new → EndsLine s n op x k logs x l new (answers.NoEnt told.0)
-    dropped is drops = record {
-      ends = λ free. subst (λ e. Ends e false (answers.NoEnt told.0)) (sym (refused free))
+    refusal : (free : ℕ) → kept_event s x k free Idle op ≡ answered (refused told.0)
+    refusal free = event free ∙ ap (λ (t : ℕ × Attr). answered (refused t.0)) (sym same)
+
+    leaves : LeavesKept x x k l drops.gone
+    leaves = leaves-emptied x k before.whole.sound.pending.are_held x l drops.gone (record {
+      emptied = drops.none.holds;
+      holds = holds-same k.pending.held (held_in x.path.file) before.whole.sound.pending.are_held before.whole.sound.apart file_held;
+      are_gone = gone-beside k.pending.held (held_in x.path.file) before.whole.sound.pending.are_held before.whole.sound.apart
+          (held_in x.path.file) [] drops.gone (gone-none (held_in x.path.file) file_held.named)
+          (gone-dropped k.pending.held (held_in x.path.file) before.whole.sound.pending.are_held before.whole.sound.apart file_held
+          l.pending.held drops.gone (nil_from_length l.pending.held.fragments drops.none.fragments) drops.are_gone);
+    }) s logs before.stand
+
+    dropped : EndsLine s n op x k logs x l new (refused told.0)
+    dropped = record {
+      ends = λ free. subst (λ e. Ends e false (refused told.0)) (sym (refusal free))
           (record { answer = refl; doing = refl; filling = refl });
-      follows = λ free. follow.follows-noted s n op Idle (kept_event s x k free Idle op) x k l (answers.NoEnt told.0)
-          (ap (λ (e : Event). e.commits) (event none free))
-          (notes-told x k Idle (answers.NoEnt told.0) told l.noted same (ap (λ (w : ClientPath). w.noted) is) refl)
-          (ap (λ (w : ClientPath). w.is_open) is ∙ sym (ap (λ b. b || k.is_open) (and-false (opens_path op))))
-          (nil_from_length l.pending.lines drops.none.lines ∙ sym (lines told.0))
+      follows = λ free. follow.follows-noted s n op Idle (kept_event s x k free Idle op) x k l (refused told.0)
+          (ap (λ (e : Event). e.commits) (event free))
+          (notes-told x k Idle (refused told.0) told l.noted same (ap (λ (w : ClientPath). w.noted) noted) prints)
+          (ap (λ (w : ClientPath). w.is_open) noted ∙ sym (ap (λ b. b || k.is_open) opened))
+          (nil_from_length l.pending.lines drops.none.lines ∙ sym lines)
           (λ q there. absurd (false≢true (sym (ap is_some (drops.none.holds q)) ∙ there)));
       logs = λ c. settle-gone s x k logs before.stand x l drops.gone before.once leaves n c new before.held drops.logs;
       sound = record {
@@ -112,30 +128,10 @@ module _ (s : Job) (n : ℕ) (op : Op) (r : ℕ) (x : OwnedPath) (k : ClientPath
         pending = pending-none s l.pending drops.none;
         apart = λ q there. absurd (false≢true (sym (ap is_some (drops.none.holds q)) ∙ there));
       };
-    } where
-      refused : (free : ℕ) → kept_event s x k free Idle op ≡ answered (answers.NoEnt told.0)
-      refused free = event none free ∙ ap (λ (t : ℕ × Attr). answered (answers.NoEnt t.0)) (sym same)
+    }
 
-      leaves : LeavesKept x x k l drops.gone
-      leaves = leaves-emptied x k before.whole.sound.pending.are_held x l drops.gone (record {
-        emptied = drops.none.holds;
-        holds = λ q. ap (λ o. file_hold o q) none
-            ∙ sym (ap (λ o. if is_named (held_in o).fragments q then (kept_held x k).hold_of q else None) none);
-        are_gone = gone-beside k.pending.held (held_in x.path.file) before.whole.sound.pending.are_held before.whole.sound.apart
-            (held_in x.path.file) [] drops.gone
-            (gone-none (held_in x.path.file) (holds-there x.path.file before.whole.sound.written).named)
-            (gone-unnamed k.pending.held l.pending.held (held_in x.path.file) drops.gone
-            (nil_from_length l.pending.held.fragments drops.none.fragments ∙ sym (ap (λ o. (held_in o).fragments) none)) drops.are_gone);
-      }) s logs before.stand
-
-    pub ends-refused : (result : Result Answer Want) → IfOk result (λ a. a ≡ answers.NoEnt told.0)
-        → OnOk result (l ≡ record k { pending = l.pending; noted = later_of k.noted (record { version = told.0; attr = told.1 }) })
-        → OnOk result (DropsPending k.pending l.pending logs new)
-        → IfOk result (λ a. EndsLine s n op x k logs x (at (after_answer op a n (pending_lines k))) new a)
-    ends-refused (Err e) answer is drops = tt
-    ends-refused (Ok a) answer is drops =
-        subst (λ b. EndsLine s n op x k logs x (at (after_answer op b n (pending_lines k))) new b) (sym answer)
-        (subst (λ ns. EndsLine s n op x k logs x (at ns) new (answers.NoEnt told.0)) (sym (lines told.0)) (dropped is drops))
+    pub ends-refused : EndsLine s n op x k logs x (at (after_answer op (refused told.0) n (pending_lines k))) new (refused told.0)
+    ends-refused = subst (λ ns. EndsLine s n op x k logs x (at ns) new (refused told.0)) (sym lines) dropped
 
 -- ---- lines that were committed
 

@@ -109,6 +109,11 @@ told-file told x same there = by x.file refl
     by None is = absurd (false≢true (sym (ap (λ (t : ℕ × Attr). t.1.exists) same ∙ ap (λ o. (attr_in o).exists) is) ∙ there))
     by (Some f) is = (f, is)
 
+-- and whether that is frozen
+pub told-frozen : (told : ℕ × Attr) (x : BookPath PlainHold) (f : BookFile PlainHold) → told ≡ (version x, attr x) → x.file ≡ Some f
+    → f.frozen ≡ told.1.frozen
+told-frozen told x f same is = sym (ap (λ (t : ℕ × Attr). t.1.frozen) same ∙ ap (λ o. (attr_in o).frozen) is)
+
 module _ (s : Job) (n : ℕ) (op : Op) (t : Task) (e : Event) (x : OwnedPath) (k l : ClientPath) (a : Answer) (commits : e.commits ≡ false)
     (notes : Notes x k t a l.noted) (opened : l.is_open ≡ (opens op a || k.is_open))
     (lines : pending_lines l ≡ after_answer op a n (pending_lines k)) where

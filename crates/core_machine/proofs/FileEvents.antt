@@ -91,7 +91,6 @@ module _ (s : Job) (n : ℕ) (x y : BookPath PlainHold) (told : Noted) (k l : Cl
             are_held = holds-created (λ (h : PlainHold). true) (λ h. h.piece) (λ h. h.bytes) n x;
             within = All-nil (λ g. end_of g ≤ 0);
             most = omega arith;
-            unfrozen = refl;
           });
           pending = subst (ArePending s) (sym pending) sound.pending;
           apart = λ q there. ap (λ (p : BookPath PlainHold). file_hold p.file q) changed;

@@ -11,8 +11,7 @@ use Rattle.fs_types.specs.Fragments.{piece_eq}
 use Rattle.fs_types.specs.Pieces.{Fragment, Piece}
 use Rattle.span_list.proofs.CallerLemmas.{AllPairs-append, AllPairs-nil, AllPairs-one}
 use Rattle.piece_table.specs.HeldSpans.{is_named}
-use Rattle.piece_table.proofs.CallerLemmas.{piece_eq-sym, same_piece}
-use Rattle.piece_table.proofs.Entered.{find-none}
+use Rattle.piece_table.proofs.CallerLemmas.{find-none, piece_eq-sym, same_piece}
 use Rattle.owner_book.specs.Lookups.{is_one_of, pieces_named}
 
 -- ---- the pieces that fragments name, each once

@@ -28,6 +28,7 @@ pub mod Commits
 pub mod EmptiedLines
 pub mod SyncEvents
 pub mod TruncEvents
+pub mod LaminateEvents
 pub mod UnlinkEvents
 pub mod LogSlots
 pub mod FilledParts

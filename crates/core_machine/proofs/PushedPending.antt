@@ -9,8 +9,7 @@ use Rattle.fs_types.specs.Pieces.{Fragment}
 use Rattle.fs_types.specs.declared.push.Push.{Push}
 use Rattle.fs_script.specs.Vocabulary.{File, Job, Mark, Piece, marks_in, put_lines}
 use Rattle.piece_table.specs.HeldSpans.{AreGone, Held, PutsAll, is_named, put_fragments, pushed}
-use Rattle.piece_table.proofs.CallerLemmas.{some_named}
-use Rattle.piece_table.proofs.Pushed.{find-All, find-own, holds_apart}
+use Rattle.piece_table.proofs.CallerLemmas.{find-All, find-own, holds_apart, some_named}
 use Rattle.client_map.specs.Kept.{pending_end}
 use Rattle.owner_book.specs.Commits.{MayCommit, size_after, with_push}
 use Rattle.owner_book.specs.Kept.{BookFile, BookPath, held_in}
@@ -34,9 +33,9 @@ abbrev pub file_with : Bool → List (Option Mark) → File (Option Mark)
 file_with frozen marks = Some (record { cells = marks; frozen = frozen })
 
 -- what is made of a file that isn't frozen
-pub unfrozen-is : (frozen : Bool) (marks old : List (Option Mark)) → frozen ≡ false
-    → (if not frozen then file_with frozen marks else file_with frozen old) ≡ file_with frozen marks
-unfrozen-is frozen marks old unfrozen = ap (λ b. if not b then file_with frozen marks else file_with frozen old) unfrozen
+pub unfrozen-is : (frozen after : Bool) (marks old : List (Option Mark)) → frozen ≡ false
+    → (if not frozen then file_with after marks else file_with frozen old) ≡ file_with after marks
+unfrozen-is frozen after marks old unfrozen = ap (λ b. if not b then file_with after marks else file_with frozen old) unfrozen
 
 abbrev pub with_pushed : Push PlainHold → BookFile PlainHold → BookFile PlainHold
 with_pushed push f = with_push (λ h. h.piece) push f
@@ -67,7 +66,6 @@ module _ (s : Job) (q : Pending) (push : Push PlainHold) (f : BookFile PlainHold
     are_held = has;
     within = within-pushed;
     most = omega (arith, length-pushed, pending.most, file.most);
-    unfrozen = file.unfrozen;
   }
 
   -- its fragments are over the file's, each with its hold

@@ -59,4 +59,5 @@ commits-nothing s w nothing (ops.Read off len own) none =
 commits-nothing s w (reading d) (ops.Read off len own) none = fetch-quiet s d
 commits-nothing s w d ops.Size none = where-open w (size_over w w.file) (size-quiet w w.file)
 commits-nothing s w d (ops.Trunc n) none = absurd (true≢false none)
+commits-nothing s w d ops.Laminate none = absurd (true≢false none)
 commits-nothing s w d ops.Unlink none = absurd (true≢false none)

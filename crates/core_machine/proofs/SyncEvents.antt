@@ -39,6 +39,10 @@ module _ (s : Job) (x : OwnedPath) (k : ClientPath) where
       → kept_event s x k free Idle ops.Sync ≡ answered (answers.NoEnt (version x.path))
   refused-sync opened none free = rw (opened, none) refl
 
+  pub frozen-sync : (f : BookFile PlainHold) → k.is_open ≡ true → x.path.file ≡ Some f → f.frozen ≡ true → has_any (pending_lines k) ≡ true
+      → (free : ℕ) → kept_event s x k free Idle ops.Sync ≡ answered (answers.ReadOnly (version x.path))
+  frozen-sync f opened file frozen any free = rw (opened, file, any, frozen) refl
+
   empty-sync : (f : BookFile PlainHold) → k.is_open ≡ true → x.path.file ≡ Some f → pending_lines k ≡ [] → (free : ℕ)
       → kept_event s x k free Idle ops.Sync ≡ answered (answers.Done (version x.path))
   empty-sync f opened file none free = rw (opened, file, none) refl
@@ -60,7 +64,7 @@ module _ (s : Job) (x : OwnedPath) (k : ClientPath) where
 
 -- line n put the push of what its client had pending over the file
 module _ (s : Job) (n : ℕ) (x y : BookPath PlainHold) (told : Noted) (k : ClientPath) (f : BookFile PlainHold) (push : Push PlainHold)
-    (dead : List PlainHold) (sound : AreSound s (owned_of x told) k) (file : x.file ≡ Some f) (opened : k.is_open ≡ true)
+    (dead : List PlainHold) (sound : AreSound s (owned_of x told) k) (file : x.file ≡ Some f) (unfrozen : f.frozen ≡ false) (opened : k.is_open ≡ true)
     (any : has_any (pending_lines k) ≡ true) (end : k.pending.end ≡ pending_end k.pending.held.fragments)
     (is_push : IsPushOf k.pending.held push)
     (changed : y ≡ with_commit (λ h. h.piece) n push x) (has : HasHolds (λ (h : PlainHold). true) (λ h. h.piece) (λ h. h.bytes) y)
@@ -72,11 +76,11 @@ module _ (s : Job) (n : ℕ) (x y : BookPath PlainHold) (told : Noted) (k : Clie
   file_then = ap (λ (q : BookPath PlainHold). q.file) changed ∙ ap (option_map (with_pushed push)) file
 
   event : (free : ℕ) → kept_event s (owned_of x told) k free Idle ops.Sync ≡ committed_as (length x.journal + 1)
-  event free = let unfrozen : f.frozen ≡ false = is_file.unfrozen in rw (opened, file, any, unfrozen) refl
+  event free = rw (opened, file, any, unfrozen) refl
 
   marks : file_marks y.file ≡ effect_of s (marks_in s) ops.Sync (pending_lines k) (file_marks x.file)
   marks = ap file_marks file_then ∙ ap (file_with f.frozen) (marks-pushed s k.pending push f sound.pending end is_file is_push)
-      ∙ sym (unfrozen-is f.frozen (put_lines s (marks_in s) (pending_lines k) (marks_of_file f)) (marks_of_file f) is_file.unfrozen)
+      ∙ sym (unfrozen-is f.frozen f.frozen (put_lines s (marks_in s) (pending_lines k) (marks_of_file f)) (marks_of_file f) unfrozen)
       ∙ ap (λ o. effect_of s (marks_in s) ops.Sync (pending_lines k) (file_marks o)) (sym file)
 
   puts : PutsAll k.pending.held (held_in x.file) (held_in y.file)

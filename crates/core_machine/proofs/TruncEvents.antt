@@ -37,11 +37,15 @@ module _ (s : Job) (x : OwnedPath) (k : ClientPath) (size : ℕ) where
       → kept_event s x k free Idle (ops.Trunc size) ≡ answered (answers.NoEnt (version x.path))
   refused-trunc opened none free = rw (opened, none) refl
 
+  pub frozen-trunc : (f : BookFile PlainHold) → k.is_open ≡ true → x.path.file ≡ Some f → f.frozen ≡ true → (free : ℕ)
+      → kept_event s x k free Idle (ops.Trunc size) ≡ answered (answers.ReadOnly (version x.path))
+  frozen-trunc f opened file frozen free = rw (opened, file, frozen) refl
+
 -- ---- what is committed
 
 -- line n put the push of what its client had pending over the file, and gave it so many bytes
 module _ (s : Job) (n size : ℕ) (x y : BookPath PlainHold) (told : Noted) (k : ClientPath) (f : BookFile PlainHold) (push : Push PlainHold)
-    (dead : List PlainHold) (sound : AreSound s (owned_of x told) k) (file : x.file ≡ Some f) (opened : k.is_open ≡ true)
+    (dead : List PlainHold) (sound : AreSound s (owned_of x told) k) (file : x.file ≡ Some f) (unfrozen : f.frozen ≡ false) (opened : k.is_open ≡ true)
     (limit : size ≤ LONGEST_FILE) (end : k.pending.end ≡ pending_end k.pending.held.fragments) (is_push : IsPushOf k.pending.held push)
     (changed : y ≡ with_truncation (λ h. h.piece) n push size x)
     (has : HasHolds (λ (h : PlainHold). true) (λ h. h.piece) (λ h. h.bytes) y) (gone : AreDeadOfBoth (λ h. h.piece) push x y dead) where
@@ -56,7 +60,7 @@ module _ (s : Job) (n size : ℕ) (x y : BookPath PlainHold) (told : Noted) (k :
       ∙ ap (option_map (λ (h : BookFile PlainHold). with_size size (with_pushed push h))) file
 
   event : (free : ℕ) → kept_event s (owned_of x told) k free Idle (ops.Trunc size) ≡ committed_as (length x.journal + 1)
-  event free = let unfrozen : f.frozen ≡ false = is_file.unfrozen in rw (opened, file, unfrozen) refl
+  event free = rw (opened, file, unfrozen) refl
 
   marks-cut : marks_of_file g ≡ cut no_mark (put_lines s (marks_in s) (pending_lines k) (marks_of_file f)) size
   marks-cut = marks_of_fragments-cut size (with_pushed push f).held.fragments (with_pushed push f).size
@@ -65,8 +69,8 @@ module _ (s : Job) (n size : ℕ) (x y : BookPath PlainHold) (told : Noted) (k :
 
   marks : file_marks y.file ≡ effect_of s (marks_in s) (ops.Trunc size) (pending_lines k) (file_marks x.file)
   marks = ap file_marks file_then ∙ ap (file_with f.frozen) marks-cut
-      ∙ sym (unfrozen-is f.frozen (cut no_mark (put_lines s (marks_in s) (pending_lines k) (marks_of_file f)) size) (marks_of_file f)
-      is_file.unfrozen)
+      ∙ sym (unfrozen-is f.frozen f.frozen (cut no_mark (put_lines s (marks_in s) (pending_lines k) (marks_of_file f)) size) (marks_of_file f)
+      unfrozen)
       ∙ ap (λ o. effect_of s (marks_in s) (ops.Trunc size) (pending_lines k) (file_marks o)) (sym file)
 
   puts : PutsAll k.pending.held (held_in x.file) (with_pushed push f).held
@@ -87,7 +91,6 @@ module _ (s : Job) (n size : ℕ) (x y : BookPath PlainHold) (told : Noted) (k :
       are_held = subst (λ o. AreHeldPlain (held_in o)) file_then has;
       within = cut_ends size (with_pushed push f).held.fragments;
       most = limit;
-      unfrozen = is_file.unfrozen;
     });
     empties = λ l none. record {
       emptied = none;

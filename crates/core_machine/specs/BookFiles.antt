@@ -1,5 +1,5 @@
 -- A file in its owner's book: what of it the core goes on keeping so, and the marks that it has.
-use Rattle.std.specs.Prelude.{◌≡◌, ◌≤◌, false, List, Option, All}
+use Rattle.std.specs.Prelude.{◌≤◌, List, Option, All}
 use Rattle.fs_types.specs.FragmentMarks.{marks_of_fragments}
 use Rattle.fs_types.specs.Fragments.{end_of}
 use Rattle.fs_script.specs.Vocabulary.{LONGEST_FILE, Mark}
@@ -11,9 +11,8 @@ use Rattle.core_machine.specs.declared.plain_hold.PlainHold.{PlainHold}
 abbrev pub marks_of_file : BookFile PlainHold → List (Option Mark)
 marks_of_file f = marks_of_fragments f.held.fragments f.size
 
--- each piece has its hold, and the fragments end within the file, which is no longer than the longest; nothing freezes it
+-- each piece has its hold, and the fragments end within the file, which is no longer than the longest
 pub record IsFile (f : BookFile PlainHold) : Type 0 where
   pub are_held : AreHeldPlain f.held
   pub within : All (λ g. end_of g ≤ f.size) f.held.fragments
   pub most : f.size ≤ LONGEST_FILE
-  pub unfrozen : f.frozen ≡ false

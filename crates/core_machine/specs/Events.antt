@@ -6,4 +6,5 @@ pub mod Sync
 pub mod Read
 pub mod Size
 pub mod Trunc
+pub mod Laminate
 pub mod Unlink

@@ -17,6 +17,7 @@ most_events ops.Sync = 1
 most_events (ops.Read off len own) = len + 2
 most_events ops.Size = 1
 most_events (ops.Trunc n) = 1
+most_events ops.Laminate = 1
 most_events ops.Unlink = 1
 
 abbrev pub most_events_in : Option OpLine → ℕ

@@ -24,6 +24,7 @@ use Rattle.core_machine.specs.Events.Sync.{sync_event}
 use Rattle.core_machine.specs.Events.Read.{read_event}
 use Rattle.core_machine.specs.Events.Size.{size_event}
 use Rattle.core_machine.specs.Events.Trunc.{trunc_event}
+use Rattle.core_machine.specs.Events.Laminate.{laminate_event}
 use Rattle.core_machine.specs.Events.Unlink.{unlink_event}
 
 -- whose turn it is
@@ -40,6 +41,7 @@ event_of s w d ops.Sync = sync_event w
 event_of s w d (ops.Read off len own) = read_event s w d (range_of off len own)
 event_of s w d ops.Size = size_event w
 event_of s w d (ops.Trunc n) = trunc_event w
+event_of s w d ops.Laminate = laminate_event w
 event_of s w d ops.Unlink = unlink_event w
 
 -- what line n, the operation o, sees of its path, whose journal is J, and of the log of its client

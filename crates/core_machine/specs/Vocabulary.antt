@@ -10,6 +10,7 @@ pub use Rattle.core_machine.specs.Doing.{nothing, reading, Doing, Reading}
 pub use Rattle.core_machine.specs.Event.{Event, PathNow, if_open, known_of, answered, committed_as, wrote_into, goes_on_reading}
 pub use Rattle.core_machine.specs.EventsLeft.{most_events, most_events_in, most_events_of, left_in, left_for, events_left}
 pub use Rattle.core_machine.specs.Events.Create.{create_over, create_event}
+pub use Rattle.core_machine.specs.Events.Laminate.{laminate_over, laminate_event}
 pub use Rattle.core_machine.specs.Events.Read.{shows, lookup_over, lookup_event, to_show, fetch_event, read_event}
 pub use Rattle.core_machine.specs.Events.Sync.{sync_over, sync_event}
 pub use Rattle.core_machine.specs.Events.Trunc.{trunc_over, trunc_event}

@@ -1,5 +1,6 @@
-//! The books of a job's servers, and which of them a path stands in. It touches nothing outside
-//! memory.
+//! The books of a job's servers, and which of them a path stands in: that of its owner, under its
+//! gfid. Events and the report lend a book by these two themselves, since what they do with it is a
+//! call of the book. It touches nothing outside memory.
 
 ghost use Rattle.std.specs.Prelude.{◌≡◌, ℕ, ◌≤◌, List, length, IfOk};
 ghost use Rattle.owner_book.specs.Kept.{no_path};

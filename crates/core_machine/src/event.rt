@@ -12,6 +12,7 @@ ghost use Rattle.core_machine.specs.Kept.{owned_in};
 
 mod create;
 mod emptying;
+mod laminate;
 mod open;
 mod read;
 mod size;
@@ -36,7 +37,7 @@ pub fn may_commit(op: &Op) -> bool
     ensures { (n : ℕ) → result ≡ commits op.now (n ∷ []) }
 {
     match op {
-        Op::Create | Op::Sync | Op::Trunc { .. } | Op::Unlink => true,
+        Op::Create | Op::Sync | Op::Trunc { .. } | Op::Laminate | Op::Unlink => true,
         Op::Open | Op::Write { .. } | Op::Read { .. } | Op::Size => false,
     }
 }
@@ -118,6 +119,7 @@ pub fn event<D: SpillDev + Drop>(
         Op::Trunc { n: size } => Ok(Some(trunc::trunc(
             alloc, n, *size, book, gfid, p, client, logs,
         )?)),
+        Op::Laminate => Ok(Some(laminate::laminate(alloc, n, book, gfid, p, client, logs)?)),
         Op::Unlink => Ok(Some(unlink::unlink(alloc, n, book, gfid, p, client, logs)?)),
     }
 }

@@ -264,8 +264,9 @@ fn tell(
     Ok(())
 }
 
-// Goes on to the next line of a client, and where that begins a phase, tells all clients of the paths
-// of the lines that may have changed one since they were told. After want of memory what was told is open.
+// Goes on to the next line of a client, and where that begins a phase, tells all clients of the
+// paths of the lines that may have changed a file since they were told. After want of memory what
+// was told is open.
 fn go_on<D: SpillDev + Drop>(run: &mut Run<'_, D>, r: Rank) -> Result<(), Want>
     requires gfids { AreGfids run.old.script.now run.old.gfids }
     requires kept { AreKept run.old.script.now run.old.books.items run.old.clients.items }

@@ -41,6 +41,7 @@ fn offset_of(op: &Op) -> Option<u64>
         | Op::Read { .. }
         | Op::Size
         | Op::Trunc { .. }
+        | Op::Laminate
         | Op::Unlink => None,
     }
 }

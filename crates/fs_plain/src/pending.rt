@@ -20,7 +20,7 @@ fn note_answer(op: &Op, a: &Answer, n: LineNo, pending: &mut Vec<LineNo>) -> Res
                 pending.push(n)?;
             }
         }
-        Op::Sync | Op::Trunc { .. } | Op::Unlink => {
+        Op::Sync | Op::Trunc { .. } | Op::Laminate | Op::Unlink => {
             if empties(a) {
                 pending.clear();
             }

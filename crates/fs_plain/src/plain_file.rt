@@ -4,7 +4,7 @@ ghost use Rattle.std.specs.Prelude.{◌≡◌, ◌<◌, ◌∷◌, [], false, le
 ghost use Rattle.std.specs.Prelude.{None, Some, is_some, OnOk};
 ghost use Rattle.fs_types.specs.PlainFile.{is_open_to_change};
 ghost use Rattle.fs_script.specs.Payload.{bytes_of};
-ghost use Rattle.fs_script.specs.Effect.{cut_to, with_lines};
+ghost use Rattle.fs_script.specs.Effect.{as_frozen, cut_to, with_lines};
 ghost use Rattle.fs_plain.specs.FileAttributes.{attr_of, bytes_in};
 
 use crate::payload;
@@ -94,6 +94,15 @@ impl PlainFile {
             content.bytes.cut(alloc, n)?;
         }
         Ok(())
+    }
+
+    /// Freezes the file, if it is there.
+    pub(crate) fn freeze(&mut self)
+        ensures { self.new ≡ as_frozen self.old }
+    {
+        if let Some(content) = &mut self.content {
+            content.frozen = true;
+        }
     }
 
     /// Whether there is a file, how long it is, and whether it is frozen.

@@ -44,7 +44,7 @@ fn is_enabled(op: &Op, file: &PlainFile) -> bool
 {
     match op {
         Op::Create => !file.exists(),
-        Op::Sync | Op::Trunc { .. } => file.is_open_to_change(),
+        Op::Sync | Op::Trunc { .. } | Op::Laminate => file.is_open_to_change(),
         Op::Unlink => file.exists(),
         Op::Open | Op::Write { .. } | Op::Read { .. } | Op::Size => false,
     }
@@ -68,6 +68,10 @@ fn make(
         Op::Trunc { n: size } => {
             put_pending(alloc, s, a, n, file)?;
             file.cut(alloc, *size)?;
+        }
+        Op::Laminate => {
+            put_pending(alloc, s, a, n, file)?;
+            file.freeze();
         }
         Op::Unlink => *file = PlainFile::none(),
         Op::Open | Op::Write { .. } | Op::Read { .. } | Op::Size => {}

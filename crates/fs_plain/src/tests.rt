@@ -81,6 +81,18 @@ const TWO_LIVES: &[u8] = b"unifyfs 1 servers=1 clients=1 chunk=64 shmem=4 spill=
 0 sync /unifyfs/a
 ";
 
+// A file that is frozen with a write pending; what comes before its unlink and isn't enabled changes
+// nothing.
+const FROZEN: &[u8] = b"unifyfs 1 servers=1 clients=1 chunk=64 shmem=4 spill=0
+0 create /unifyfs/a
+0 write /unifyfs/a 0 t:abc
+0 laminate /unifyfs/a
+0 trunc /unifyfs/a 1
+0 laminate /unifyfs/a
+0 unlink /unifyfs/a
+0 create /unifyfs/a
+";
+
 fn script_of(alloc: Global, text: &[u8]) -> Result<Script, Fail> {
     let script = read_script(alloc, text)
         .ok()
@@ -348,5 +360,35 @@ fn a_path_has_a_file_in_each_of_its_lives(rt: HostRuntime) -> Result<(), Fail> {
             Version(front)
         );
     }
+    Ok(())
+}
+
+#[test]
+fn a_frozen_file_stays_until_it_is_taken_away(rt: HostRuntime) -> Result<(), Fail> {
+    let alloc = rt.alloc();
+    let script = script_of(alloc, FROZEN)?;
+    let answers = answers_of(alloc, &[2, 4, 7, 8], &[3], &[])?;
+    let a = Path::read(alloc, b"/unifyfs/a")?;
+    // Lines 5 and 6 stand where they can't be committed.
+    let journal = lines_of(alloc, &[2, 4, 5, 6, 7, 8])?;
+    for (lines, exists, size, frozen) in [
+        (1, true, 0, false),
+        (2, true, 3, true),
+        (3, true, 3, true),
+        (4, true, 3, true),
+        (5, false, 0, false),
+        (6, true, 0, false),
+    ] {
+        let earlier = journal.get(..lines).ok_or("the journal has six lines")?;
+        let file = state_at(alloc, &script, &answers, &a, earlier)?;
+        let attr = Attr {
+            exists,
+            size,
+            frozen,
+        };
+        assert_eq!(rt; file.attr(), attr);
+    }
+    let pending = pending_of(alloc, &script, &answers, LineNo(5))?;
+    assert!(rt; pending.is_empty());
     Ok(())
 }

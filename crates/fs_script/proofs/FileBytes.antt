@@ -48,6 +48,7 @@ AllBytes-brought ops.Sync is = All-nil (λ b. b < 256)
 AllBytes-brought (ops.Read off len own) is = All-nil (λ b. b < 256)
 AllBytes-brought ops.Size is = All-nil (λ b. b < 256)
 AllBytes-brought (ops.Trunc n) is = All-nil (λ b. b < 256)
+AllBytes-brought ops.Laminate is = All-nil (λ b. b < 256)
 AllBytes-brought ops.Unlink is = All-nil (λ b. b < 256)
 
 module _ (s : Job) (job : IsJob s) where

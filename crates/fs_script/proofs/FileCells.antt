@@ -9,7 +9,7 @@ use Rattle.fs_script.specs.declared.line.Op.TheVariants as ops
 use Rattle.fs_script.specs.Job.{Job, op_at}
 use Rattle.fs_script.specs.Payload.{Cells, offset}
 use Rattle.fs_script.specs.Pending.{Answering, pending_at}
-use Rattle.fs_script.specs.Effect.{put_lines, with_lines, cut_to, is_enabled, makes, effect_in, effect, after_all, state_in}
+use Rattle.fs_script.specs.Effect.{put_lines, with_lines, cut_to, as_frozen, is_enabled, makes, effect_in, effect, after_all, state_in}
 use Rattle.fs_script.specs.FileMarks.{cells_of}
 
 module _ {X : Type 0} (Q : List X → Type 0) (s : Job) (c : Cells X) (of_nothing : Q []) where
@@ -29,6 +29,10 @@ module _ {X : Type 0} (Q : List X → Type 0) (s : Job) (c : Cells X) (of_nothin
   holds-cut_to n None cuts holds = holds
   holds-cut_to n (Some f) cuts holds = cuts f.cells holds
 
+  holds-as_frozen : (f : File X) → Q (cells_of f) → Q (cells_of (as_frozen f))
+  holds-as_frozen None holds = holds
+  holds-as_frozen (Some f) holds = holds
+
   holds-makes : (op : Op) (q : List ℕ) (f : File X) → StaysTrue q → ((n : ℕ) → op ≡ ops.Trunc n → StaysTrueInCut n)
       → Q (cells_of f) → Q (cells_of (makes s c op q f))
   holds-makes ops.Create q f stays cuts holds = of_nothing
@@ -39,6 +43,7 @@ module _ {X : Type 0} (Q : List X → Type 0) (s : Job) (c : Cells X) (of_nothin
   holds-makes ops.Size q f stays cuts holds = holds
   holds-makes (ops.Trunc n) q f stays cuts holds =
       holds-cut_to n (with_lines s c q f) (cuts n refl) (holds-with_lines q f stays holds)
+  holds-makes ops.Laminate q f stays cuts holds = holds-as_frozen (with_lines s c q f) (holds-with_lines q f stays holds)
   holds-makes ops.Unlink q f stays cuts holds = of_nothing
 
   -- it stays true as the operation of a line cuts a file

@@ -63,6 +63,7 @@ length-brought ops.Sync is = omega arith
 length-brought (ops.Read off len own) is = omega arith
 length-brought ops.Size is = omega arith
 length-brought (ops.Trunc n) is = omega arith
+length-brought ops.Laminate is = omega arith
 length-brought ops.Unlink is = omega arith
 
 -- no line writes more bytes than one line may move

@@ -9,6 +9,7 @@ pub mod Reading
 mod ReadingCases
 pub mod Agreement
 pub mod States
+pub mod FrozenFiles
 pub mod Fronts
 pub mod FitsGrows
 pub mod JournalGrows

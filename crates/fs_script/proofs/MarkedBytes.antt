@@ -17,7 +17,7 @@ use Rattle.fs_script.specs.declared.line.Op.TheVariants as ops
 use Rattle.fs_script.specs.Job.{Job, op_at}
 use Rattle.fs_script.specs.Payload.{Cells, payload, offset, bytes_of, marks_in}
 use Rattle.fs_script.specs.Pending.{Answering, pending_at}
-use Rattle.fs_script.specs.Effect.{put_lines, with_lines, cut_to, view_of, is_enabled, makes, effect_in, effect, after_all, state_in, state}
+use Rattle.fs_script.specs.Effect.{put_lines, with_lines, cut_to, as_frozen, view_of, is_enabled, makes, effect_in, effect, after_all, state_in, state}
 use Rattle.fs_script.specs.FileMarks.{marks_at, marks_put, cells_of, marked_byte, file_map, marked_bytes}
 
 -- ---- what overwriting makes of the values of a function is the values of what it makes
@@ -62,6 +62,10 @@ module _ {X Y : Type 0} (h : X → Y) where
   file_map-cut_to blank n None = refl
   file_map-cut_to blank n (Some f) = ap (λ ys. Some (record { cells = ys; frozen = f.frozen })) (map-cut blank f.cells n)
 
+  file_map-as_frozen : (f : File X) → file_map h (as_frozen f) ≡ as_frozen (file_map h f)
+  file_map-as_frozen None = refl
+  file_map-as_frozen (Some f) = refl
+
   -- a file is there, and may be changed, exactly where that of the values is and may be
   pub is_enabled-map : (op : Op) (f : File X) → is_enabled op (file_map h f) ≡ is_enabled op f
   is_enabled-map ops.Create None = refl
@@ -74,6 +78,8 @@ module _ {X Y : Type 0} (h : X → Y) where
   is_enabled-map ops.Size f = refl
   is_enabled-map (ops.Trunc n) None = refl
   is_enabled-map (ops.Trunc n) (Some f) = refl
+  is_enabled-map ops.Laminate None = refl
+  is_enabled-map ops.Laminate (Some f) = refl
   is_enabled-map ops.Unlink None = refl
   is_enabled-map ops.Unlink (Some f) = refl
 
@@ -112,6 +118,7 @@ module _ {X Y : Type 0} (h : X → Y) (s : Job) (c : Cells X) (d : Cells Y) (tak
   file_map-makes ops.Size q f = refl
   file_map-makes (ops.Trunc n) q f = file_map-cut_to h c.blank n (with_lines s c q f)
       ∙ ap (λ b. cut_to b n (file_map h (with_lines s c q f))) takes.blank ∙ ap (cut_to d.blank n) (file_map-with_lines q f)
+  file_map-makes ops.Laminate q f = file_map-as_frozen h (with_lines s c q f) ∙ ap as_frozen (file_map-with_lines q f)
   file_map-makes ops.Unlink q f = refl
 
   file_map-effect_in : (o : Option OpLine) (q : List ℕ) (f : File X) → file_map h (effect_in s c o q f) ≡ effect_in s d o q (file_map h f)

@@ -43,6 +43,7 @@ module _ (s : Job) (A : Answering) (r : ℕ) (p : List ℕ) where
   AllAccepted-after (ops.Read off len over) a n q own answered all = all
   AllAccepted-after ops.Size a n q own answered all = all
   AllAccepted-after (ops.Trunc size) a n q own answered all = AllAccepted-emptied a q all
+  AllAccepted-after ops.Laminate a n q own answered all = AllAccepted-emptied a q all
   AllAccepted-after ops.Unlink a n q own answered all = AllAccepted-emptied a q all
 
   AllAccepted-one_more : (o : Option Op) (b : Option Answer) (n : ℕ) (q : List ℕ) → own_at s r p n ≡ o → A n ≡ b → AllAccepted q

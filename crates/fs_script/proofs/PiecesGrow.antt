@@ -21,7 +21,7 @@ use Rattle.fs_script.proofs.LivePieces.{IsPart, IsPart-lines}
 use Rattle.fs_script.proofs.MarksGrow.{marks_at-push_last, marks_put-append, marks_at-agree, present_marks-agree, pending_marks-agree}
 use Rattle.fs_script.proofs.PendingLines.{pending-past}
 use Rattle.fs_script.proofs.PutLines.{bears-put_lines, bears-cut}
-use Rattle.fs_script.specs.Effect.{with_lines, cut_to, view_of}
+use Rattle.fs_script.specs.Effect.{with_lines, cut_to, as_frozen, view_of}
 
 -- a piece of line n, which is client r's, and whose bytes were accepted
 pub record IsNewPiece (s : Job) (n : ℕ) (o : OpLine) (a : Answer) (r : ℕ) (x : Piece) : Type 0 where
@@ -45,6 +45,10 @@ module _ (s : Job) (x : Piece) where
   cut_to-bears n None borne = borne
   cut_to-bears n (Some f) borne = bears-cut f.cells n x borne
 
+  as_frozen-bears : (f : File (Option Mark)) → bears (cells_of (as_frozen f)) x ≡ true → bears (cells_of f) x ≡ true
+  as_frozen-bears None borne = borne
+  as_frozen-bears (Some f) borne = borne
+
   makes-bears : (op : Op) (q : List ℕ) (f : File (Option Mark)) → bears (cells_of (makes s (marks_in s) op q f)) x ≡ true → WasBorne q f
   makes-bears ops.Create q f borne = absurd (false≢true borne)
   makes-bears ops.Open q f borne = or_left (bears (cells_of f) x) (bears (marks_put s q) x) borne
@@ -53,6 +57,7 @@ module _ (s : Job) (x : Piece) where
   makes-bears (ops.Read off len own) q f borne = or_left (bears (cells_of f) x) (bears (marks_put s q) x) borne
   makes-bears ops.Size q f borne = or_left (bears (cells_of f) x) (bears (marks_put s q) x) borne
   makes-bears (ops.Trunc n) q f borne = with_lines-bears q f (cut_to-bears n (with_lines s (marks_in s) q f) borne)
+  makes-bears ops.Laminate q f borne = with_lines-bears q f (as_frozen-bears (with_lines s (marks_in s) q f) borne)
   makes-bears ops.Unlink q f borne = absurd (false≢true borne)
 
   effect-bears : (o : Option OpLine) (q : List ℕ) (f : File (Option Mark)) → bears (cells_of (effect_in s (marks_in s) o q f)) x ≡ true
@@ -101,6 +106,7 @@ module _ (s : Job) (some : 0 < s.shape.chunk) (x : Piece) (n : ℕ) where
   answer-bears (ops.Read off len own) a q borne = inl borne
   answer-bears ops.Size a q borne = inl borne
   answer-bears (ops.Trunc size) a q borne = emptied-bears a q borne
+  answer-bears ops.Laminate a q borne = emptied-bears a q borne
   answer-bears ops.Unlink a q borne = emptied-bears a q borne
 
 -- ---- a line that comes next

@@ -30,6 +30,7 @@ slots_are_few w ops.Sync slots is accepts = absurd accepts
 slots_are_few w (ops.Read off len own) slots is accepts = absurd accepts
 slots_are_few w ops.Size slots is accepts = absurd accepts
 slots_are_few w (ops.Trunc n) slots is accepts = absurd accepts
+slots_are_few w ops.Laminate slots is accepts = absurd accepts
 slots_are_few w ops.Unlink slots is accepts = absurd accepts
 
 -- and a write that finds too few slots free needs no more
@@ -43,6 +44,7 @@ need_is_small w ops.Sync need free is lacks = absurd lacks
 need_is_small w (ops.Read off len own) need free is lacks = absurd lacks
 need_is_small w ops.Size need free is lacks = absurd lacks
 need_is_small w (ops.Trunc n) need free is lacks = absurd lacks
+need_is_small w ops.Laminate need free is lacks = absurd lacks
 need_is_small w ops.Unlink need free is lacks = absurd lacks
 
 -- ---- what a read shows

@@ -166,7 +166,7 @@ read_too_long = refl
 pattern_too_long : IsPastLimit (codes "0 write /unifyfs/a 0 p:0:4294967299")
 pattern_too_long = refl
 
--- ---- a read with own writes, a cut and an unlink
+-- ---- a read with own writes, a cut, a lamination and an unlink
 
 abbrev Reads : List ℕ → Op → Type 0
 Reads line op = line_of two_shape line ≡ Ok (lines.Op (record { rank = 0; path = path_a; op = op }))
@@ -204,6 +204,12 @@ path_before_length = refl
 
 rank_before_words : IsBadLine reasons.Rank (codes "2 trunc /unifyfs/a")
 rank_before_words = refl
+
+laminated : Reads (codes "0 laminate /unifyfs/a") ops.Laminate
+laminated = refl
+
+lamination_with_a_word_more : IsBadLine reasons.Words (codes "0 laminate /unifyfs/a x")
+lamination_with_a_word_more = refl
 
 unlinked : Reads (codes "0 unlink /unifyfs/a") ops.Unlink
 unlinked = refl

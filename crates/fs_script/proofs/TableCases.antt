@@ -54,6 +54,12 @@ trunc_needs_the_path_open = refl
 trunc_of_an_open_path_is_not_badf : AgreesWithOpen (ops.Trunc 3) true answers.BadF → ⊥
 trunc_of_an_open_path_is_not_badf h = true≢false h
 
+laminate_needs_the_path_open : AgreesWithOpen ops.Laminate false answers.BadF
+laminate_needs_the_path_open = refl
+
+laminate_of_an_open_path_is_not_badf : AgreesWithOpen ops.Laminate true answers.BadF → ⊥
+laminate_of_an_open_path_is_not_badf h = true≢false h
+
 unlink_needs_the_path_open : AgreesWithOpen ops.Unlink false answers.BadF
 unlink_needs_the_path_open = refl
 
@@ -70,6 +76,15 @@ trunc_over_a_file = refl
 
 trunc_over_a_frozen_file : is_enabled (ops.Trunc 3) frozen_file ≡ false
 trunc_over_a_frozen_file = refl
+
+laminate_of_no_file : is_enabled {X = ℕ} ops.Laminate None ≡ false
+laminate_of_no_file = refl
+
+laminate_of_a_file : is_enabled ops.Laminate open_file ≡ true
+laminate_of_a_file = refl
+
+laminate_of_a_frozen_file : is_enabled ops.Laminate frozen_file ≡ false
+laminate_of_a_frozen_file = refl
 
 unlink_of_no_file : is_enabled {X = ℕ} ops.Unlink None ≡ false
 unlink_of_no_file = refl
@@ -120,6 +135,12 @@ module _ (compared : Type 0) where
   trunc_is_readonly : IsInTable compared (view frozen_file []) (ops.Trunc 3) (answers.ReadOnly 0)
   trunc_is_readonly = (refl, tt, refl)
 
+  laminate_is_readonly : IsInTable compared (view frozen_file []) ops.Laminate (answers.ReadOnly 0)
+  laminate_is_readonly = (refl, tt, refl)
+
+  laminate_of_a_frozen_file_is_not_done : IsInTable compared (view frozen_file []) ops.Laminate (answers.Done 1) → ⊥
+  laminate_of_a_frozen_file_is_not_done row = omega (arith, same_Some 2 4 row)
+
   unlink_is_not_readonly : IsInTable compared (view frozen_file []) ops.Unlink (answers.ReadOnly 1) → ⊥
   unlink_is_not_readonly row = false≢true row.0
 
@@ -148,6 +169,9 @@ module _ (compared : Type 0) where
 
   trunc_finds_no_file : IsInTable compared (view None []) (ops.Trunc 3) (answers.NoEnt 0)
   trunc_finds_no_file = (refl, tt, refl)
+
+  laminate_finds_no_file : IsInTable compared (view None []) ops.Laminate (answers.NoEnt 0)
+  laminate_finds_no_file = (refl, tt, refl)
 
   unlink_finds_no_file : IsInTable compared (view None []) ops.Unlink (answers.NoEnt 1)
   unlink_finds_no_file = (refl, tt, refl)
@@ -194,6 +218,15 @@ module _ (compared : Type 0) where
   trunc_may_change_it row = false≢true row.2
 
   -- ---- a line that is committed prints the version that it makes
+
+  laminate_may_change_it : IsInTable compared (view open_file []) ops.Laminate (answers.ReadOnly 1) → ⊥
+  laminate_may_change_it row = false≢true row.2
+
+  laminate_is_done : IsInTable compared (committed_view open_file []) ops.Laminate (answers.Done 2)
+  laminate_is_done = refl
+
+  laminate_is_not_done_before : IsInTable compared (committed_view open_file []) ops.Laminate (answers.Done 1) → ⊥
+  laminate_is_not_done_before row = omega (arith, same_Some 2 4 row)
 
   trunc_is_done : IsInTable compared (committed_view open_file []) (ops.Trunc 3) (answers.Done 2)
   trunc_is_done = refl

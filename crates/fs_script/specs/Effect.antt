@@ -1,5 +1,5 @@
 -- What a committing line does to a file, and the file after some lines of a journal.
-use Rattle.std.specs.Prelude.{ℕ, Bool, false, not, is_some, List, [], ◌∷◌, take, Option, Some, None, if◌then◌else◌}
+use Rattle.std.specs.Prelude.{ℕ, Bool, true, false, not, is_some, List, [], ◌∷◌, take, Option, Some, None, if◌then◌else◌}
 use Rattle.fs_types.specs.Overwrite.{cut}
 use Rattle.fs_types.specs.PlainFile.{File, written, is_open_to_change}
 use Rattle.fs_script.specs.declared.line.OpLine.{OpLine}
@@ -24,6 +24,11 @@ abbrev pub cut_to : {X : Type 0} → X → ℕ → File X → File X
 cut_to blank n None = None
 cut_to blank n (Some f) = Some (record { cells = cut blank f.cells n; frozen = f.frozen })
 
+-- a file with the same bytes, frozen
+abbrev pub as_frozen : {X : Type 0} → File X → File X
+as_frozen None = None
+as_frozen (Some f) = Some (record { cells = f.cells; frozen = true })
+
 -- what a client sees of a file: the file alone, or with its own pending lines put over it
 abbrev pub view_of : {X : Type 0} → Job → Cells X → Bool → List ℕ → File X → File X
 view_of s c own q f = if own then with_lines s c q f else f
@@ -37,6 +42,7 @@ is_enabled ops.Sync f = is_open_to_change f
 is_enabled (ops.Read off len own) f = false
 is_enabled ops.Size f = false
 is_enabled (ops.Trunc n) f = is_open_to_change f
+is_enabled ops.Laminate f = is_open_to_change f
 is_enabled ops.Unlink f = is_some f
 
 -- what it makes of the file then, with these lines pending
@@ -48,6 +54,7 @@ makes s c ops.Sync q f = with_lines s c q f
 makes s c (ops.Read off len own) q f = f
 makes s c ops.Size q f = f
 makes s c (ops.Trunc n) q f = cut_to c.blank n (with_lines s c q f)
+makes s c ops.Laminate q f = as_frozen (with_lines s c q f)
 makes s c ops.Unlink q f = None
 
 -- an operation's effect on a file, with these lines pending; where it isn't enabled, the file stays

@@ -74,6 +74,7 @@ op_words ops.Sync p = codes "sync" ∷ p ∷ []
 op_words (ops.Read off len own) p = read_word own ∷ p ∷ decimal off ∷ decimal len ∷ []
 op_words ops.Size p = codes "size" ∷ p ∷ []
 op_words (ops.Trunc n) p = codes "trunc" ∷ p ∷ decimal n ∷ []
+op_words ops.Laminate p = codes "laminate" ∷ p ∷ []
 op_words ops.Unlink p = codes "unlink" ∷ p ∷ []
 
 -- the text of an operation: its client and its other words
@@ -94,6 +95,7 @@ IsOp ops.Sync = Unit {0}
 IsOp (ops.Read off len own) = (off < 2 ^ 64) × (len ≤ TRANSFER_LIMIT)
 IsOp ops.Size = Unit {0}
 IsOp (ops.Trunc n) = n ≤ LONGEST_FILE
+IsOp ops.Laminate = Unit {0}
 IsOp ops.Unlink = Unit {0}
 
 -- an operation that a client of the job may do

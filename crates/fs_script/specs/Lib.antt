@@ -21,4 +21,5 @@ pub mod Returned
 pub mod SoFar
 pub mod Runs
 pub mod Laws
+pub mod FrozenFiles
 pub mod Vocabulary

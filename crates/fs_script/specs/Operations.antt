@@ -17,6 +17,7 @@ needs_open ops.Sync = true
 needs_open (ops.Read off len own) = true
 needs_open ops.Size = true
 needs_open (ops.Trunc n) = true
+needs_open ops.Laminate = true
 needs_open ops.Unlink = true
 
 -- once it is done its client has opened the path
@@ -28,6 +29,7 @@ opens_path ops.Sync = false
 opens_path (ops.Read off len own) = false
 opens_path ops.Size = false
 opens_path (ops.Trunc n) = false
+opens_path ops.Laminate = false
 opens_path ops.Unlink = false
 
 -- it may be done only where there is a file
@@ -39,6 +41,7 @@ needs_file ops.Sync = true
 needs_file (ops.Read off len own) = true
 needs_file ops.Size = true
 needs_file (ops.Trunc n) = true
+needs_file ops.Laminate = true
 needs_file ops.Unlink = true
 
 -- it may be done only where there is no file
@@ -50,6 +53,7 @@ needs_no_file ops.Sync = false
 needs_no_file (ops.Read off len own) = false
 needs_no_file ops.Size = false
 needs_no_file (ops.Trunc n) = false
+needs_no_file ops.Laminate = false
 needs_no_file ops.Unlink = false
 
 -- with these lines pending, it may be done only on a file that isn't frozen
@@ -61,6 +65,7 @@ needs_unfrozen ops.Sync q = has_any q
 needs_unfrozen (ops.Read off len own) q = false
 needs_unfrozen ops.Size q = false
 needs_unfrozen (ops.Trunc n) q = true
+needs_unfrozen ops.Laminate q = true
 needs_unfrozen ops.Unlink q = false
 
 -- with these lines pending, it is committed once it is done: all that changes the file, but for a sync of nothing
@@ -72,6 +77,7 @@ commits ops.Sync q = has_any q
 commits (ops.Read off len own) q = false
 commits ops.Size q = false
 commits (ops.Trunc n) q = true
+commits ops.Laminate q = true
 commits ops.Unlink q = true
 
 -- where it isn't committed, it may find a file as it is
@@ -83,6 +89,7 @@ finds_file ops.Sync = true
 finds_file (ops.Read off len own) = false
 finds_file ops.Size = false
 finds_file (ops.Trunc n) = false
+finds_file ops.Laminate = false
 finds_file ops.Unlink = false
 
 -- the bytes that a read asks for: from a place on, so many, of the file alone or with what its client has pending put over it
@@ -104,6 +111,7 @@ asked ops.Sync = None
 asked (ops.Read off len own) = Some (range_of off len own)
 asked ops.Size = None
 asked (ops.Trunc n) = None
+asked ops.Laminate = None
 asked ops.Unlink = None
 
 -- it asks how long the file is
@@ -115,4 +123,5 @@ asks_size ops.Sync = false
 asks_size (ops.Read off len own) = false
 asks_size ops.Size = true
 asks_size (ops.Trunc n) = false
+asks_size ops.Laminate = false
 asks_size ops.Unlink = false

@@ -37,6 +37,7 @@ brought ops.Sync = None
 brought (ops.Read off len own) = None
 brought ops.Size = None
 brought (ops.Trunc n) = None
+brought ops.Laminate = None
 brought ops.Unlink = None
 
 abbrev pub brought_in : Option OpLine → Option Write

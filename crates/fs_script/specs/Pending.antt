@@ -25,6 +25,7 @@ after_answer ops.Sync a n q = if empties a then [] else q
 after_answer (ops.Read off len own) a n q = q
 after_answer ops.Size a n q = q
 after_answer (ops.Trunc size) a n q = if empties a then [] else q
+after_answer ops.Laminate a n q = if empties a then [] else q
 after_answer ops.Unlink a n q = if empties a then [] else q
 
 -- what one line more makes of x, where step says what its operation's answer makes of it

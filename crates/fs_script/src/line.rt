@@ -45,6 +45,8 @@ pub enum Op {
     /// Commits the client's pending writes, and then cuts the file to `n` bytes or fills it up with
     /// zeros.
     Trunc { n: u64 },
+    /// Commits the client's pending writes, and then freezes the file.
+    Laminate,
     /// Takes the file away, and drops the client's pending writes.
     Unlink,
 }

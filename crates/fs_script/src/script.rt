@@ -122,6 +122,7 @@ impl Script {
             | Op::Read { .. }
             | Op::Size
             | Op::Trunc { .. }
+            | Op::Laminate
             | Op::Unlink => unreachable!(),
         }
     }

@@ -179,15 +179,16 @@ fn patterns_are_computed(rt: HostRuntime) -> Result<(), Fail> {
     Ok(())
 }
 
-const CUT_AND_UNLINKED: &[u8] = b"unifyfs 1 servers=1 clients=1 chunk=64 shmem=4 spill=0
+const CUT_FROZEN_AND_UNLINKED: &[u8] = b"unifyfs 1 servers=1 clients=1 chunk=64 shmem=4 spill=0
 0 readown /unifyfs/a 7 16777216
 0 trunc /unifyfs/a 1099511627776
 0 unlink /unifyfs/a
+0 laminate /unifyfs/a
 ";
 
 #[test]
-fn own_reads_cuts_and_unlinks_are_read(rt: HostRuntime) -> Result<(), Fail> {
-    let script = read_script(rt.alloc(), CUT_AND_UNLINKED)
+fn own_reads_cuts_laminations_and_unlinks_are_read(rt: HostRuntime) -> Result<(), Fail> {
+    let script = read_script(rt.alloc(), CUT_FROZEN_AND_UNLINKED)
         .ok()
         .ok_or("the bytes are a script")?;
     assert!(rt;
@@ -220,11 +221,22 @@ fn own_reads_cuts_and_unlinks_are_read(rt: HostRuntime) -> Result<(), Fail> {
             Some(Line::Op(OpLine { op: Op::Unlink, .. }))
         )
     );
+    assert!(rt;
+        matches!(
+            script.line(LineNo(5)),
+            Some(Line::Op(OpLine {
+                op: Op::Laminate,
+                ..
+            }))
+        )
+    );
     Ok(())
 }
 
 #[test]
-fn the_first_fault_of_a_cut_or_an_unlink_is_named(rt: HostRuntime) -> Result<(), Fail> {
+fn the_first_fault_of_a_cut_a_lamination_or_an_unlink_is_named(
+    rt: HostRuntime,
+) -> Result<(), Fail> {
     let alloc = rt.alloc();
     let line = LineNo(2);
     let bad = |reason| Some(ScriptFault::BadLine { line, reason });
@@ -239,6 +251,10 @@ fn the_first_fault_of_a_cut_or_an_unlink_is_named(rt: HostRuntime) -> Result<(),
         ("0 trunc /unifyfs/a", bad(Reason::Words)),
         ("1 trunc /unifyfs/a", bad(Reason::Rank)),
         ("0 unlink /unifyfs/a x", bad(Reason::Words)),
+        ("0 laminate /unifyfs/a x", bad(Reason::Words)),
+        ("0 laminate", bad(Reason::Words)),
+        ("0 laminate a", bad(Reason::Path)),
+        ("1 laminate /unifyfs/a", bad(Reason::Rank)),
     ] {
         let text = format!(in alloc;
             "unifyfs 1 servers=1 clients=1 chunk=64 shmem=4 spill=0\n{words}"

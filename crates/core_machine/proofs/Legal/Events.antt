@@ -11,6 +11,7 @@ use Rattle.core_machine.proofs.Legal.Events.Sync.{sync-legal}
 use Rattle.core_machine.proofs.Legal.Events.Read.{read-legal}
 use Rattle.core_machine.proofs.Legal.Events.Size.{size-legal}
 use Rattle.core_machine.proofs.Legal.Events.Trunc.{trunc-legal}
+use Rattle.core_machine.proofs.Legal.Events.Laminate.{laminate-legal}
 use Rattle.core_machine.proofs.Legal.Events.Unlink.{unlink-legal}
 pub mod Create
 pub mod Open
@@ -19,6 +20,7 @@ pub mod Sync
 pub mod Read
 pub mod Size
 pub mod Trunc
+pub mod Laminate
 pub mod Unlink
 
 pub event_of-legal : (k : NextLine) (d : Doing) (op : Op) → MayShow k op d → IsLegalEvent k op (event_of k.job (now k) d op)
@@ -29,4 +31,5 @@ event_of-legal k d ops.Sync may = sync-legal k
 event_of-legal k d (ops.Read off len own) may = read-legal k off len own d may
 event_of-legal k d ops.Size may = size-legal k
 event_of-legal k d (ops.Trunc n) may = trunc-legal k n
+event_of-legal k d ops.Laminate may = laminate-legal k
 event_of-legal k d ops.Unlink may = unlink-legal k

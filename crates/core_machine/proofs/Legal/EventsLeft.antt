@@ -23,6 +23,7 @@ some_event ops.Sync nothing = omega arith
 some_event (ops.Read off len own) nothing = omega arith
 some_event ops.Size nothing = omega arith
 some_event (ops.Trunc n) nothing = omega arith
+some_event ops.Laminate nothing = omega arith
 some_event ops.Unlink nothing = omega arith
 some_event op (reading d) = omega arith
 

@@ -13,7 +13,7 @@ use Rattle.fs_script.specs.Payload.{bytes_brought, write_of, data_bytes}
 use Rattle.fs_script.specs.Vocabulary.{LONGEST_FILE, has_any, marks_in, marks_put, range_of, view_of}
 use Rattle.core_machine.specs.Vocabulary.{Data, Op, Doing, Reading, nothing, reading, Event, PathNow, event_of, names, answered, if_open}
 use Rattle.core_machine.specs.Vocabulary.{most_events, write_event}
-use Rattle.core_machine.specs.Vocabulary.{create_over, lookup_over, fetch_event, sync_over, trunc_over, unlink_over}
+use Rattle.core_machine.specs.Vocabulary.{create_over, lookup_over, fetch_event, sync_over, trunc_over, laminate_over, unlink_over}
 use Rattle.core_machine.specs.Vocabulary.{write_where_free, write_at_front}
 use Rattle.core_machine.specs.Events.Open.{open_over}
 use Rattle.core_machine.specs.Events.Size.{size_over}
@@ -85,6 +85,11 @@ module _ (s : Job) (w : PathNow) (op : Op) (d : Doing) where
   of_trunc : (f : File ℕ) → IsMeasured s w op d (trunc_over w f)
   of_trunc None = none_filled (answers.NoEnt _) false refl
   of_trunc (Some f) = cond_both f.frozen _ _ (IsMeasured s w op d) (λ _. none_filled (answers.ReadOnly _) false refl)
+      (λ _. none_filled (answers.Done _) true refl)
+
+  of_laminate : (f : File ℕ) → IsMeasured s w op d (laminate_over w f)
+  of_laminate None = none_filled (answers.NoEnt _) false refl
+  of_laminate (Some f) = cond_both f.frozen _ _ (IsMeasured s w op d) (λ _. none_filled (answers.ReadOnly _) false refl)
       (λ _. none_filled (answers.Done _) true refl)
 
   of_unlink : (f : File ℕ) → IsMeasured s w op d (unlink_over w f)
@@ -159,4 +164,5 @@ event_of-measured s w nothing (ops.Read off len own) =
 event_of-measured s w (reading d) (ops.Read off len own) = of_fetch s w (ops.Read off len own) d
 event_of-measured s w d ops.Size = of_open s w ops.Size d (size_over w w.file) (of_size s w ops.Size d w.file)
 event_of-measured s w d (ops.Trunc n) = of_open s w (ops.Trunc n) d (trunc_over w w.file) (of_trunc s w (ops.Trunc n) d w.file)
+event_of-measured s w d ops.Laminate = of_open s w ops.Laminate d (laminate_over w w.file) (of_laminate s w ops.Laminate d w.file)
 event_of-measured s w d ops.Unlink = of_open s w ops.Unlink d (unlink_over w w.file) (of_unlink s w ops.Unlink d w.file)

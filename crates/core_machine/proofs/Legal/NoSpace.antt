@@ -9,7 +9,7 @@ use Rattle.fs_script.specs.Vocabulary.{File, Job, LONGEST_FILE, Mark, Range, Wri
 use Rattle.fs_script.specs.Vocabulary.{marks_in, view_of}
 use Rattle.core_machine.specs.Vocabulary.{Data, Op, Doing, Reading, nothing, reading, Event, PathNow}
 use Rattle.core_machine.specs.Vocabulary.{event_of, answered, committed_as, wrote_into, goes_on_reading, if_open, create_over, lookup_over}
-use Rattle.core_machine.specs.Vocabulary.{fetch_event, sync_over, to_show, trunc_over, unlink_over}
+use Rattle.core_machine.specs.Vocabulary.{fetch_event, laminate_over, sync_over, to_show, trunc_over, unlink_over}
 use Rattle.core_machine.specs.Vocabulary.{write_where_free, write_within, write_at_front}
 use Rattle.core_machine.specs.Events.Open.{open_over}
 use Rattle.core_machine.specs.Events.Size.{size_over}
@@ -75,6 +75,14 @@ module _ (w : PathNow) (needed left : ℕ) where
   trunc-never : (f : File ℕ) → IsRefused (trunc_over w f) → ⊥
   trunc-never None is = cc is
   trunc-never (Some f) is =
+      elim (by_case f.frozen (answered (answers.ReadOnly w.version)) (committed_as (w.version + 1)) _ is) [
+        | inl frozen ↦ cc frozen.1
+        | inr free ↦ cc free.1
+      ]
+
+  laminate-never : (f : File ℕ) → IsRefused (laminate_over w f) → ⊥
+  laminate-never None is = cc is
+  laminate-never (Some f) is =
       elim (by_case f.frozen (answered (answers.ReadOnly w.version)) (committed_as (w.version + 1)) _ is) [
         | inl frozen ↦ cc frozen.1
         | inr free ↦ cc free.1
@@ -146,6 +154,7 @@ module _ (w : PathNow) (needed left : ℕ) where
   asks-from s d (ops.Read off len own) is = absurd (read-never s d off len own is)
   asks-from s d ops.Size is = absurd (size-never w.file (opened-from _ is).1)
   asks-from s d (ops.Trunc n) is = absurd (trunc-never w.file (opened-from _ is).1)
+  asks-from s d ops.Laminate is = absurd (laminate-never w.file (opened-from _ is).1)
   asks-from s d ops.Unlink is = absurd (unlink-never w.file (opened-from _ is).1)
 
   -- ---- and back
@@ -172,4 +181,5 @@ module _ (w : PathNow) (needed left : ℕ) where
   refused-from s d (ops.Read off len own) asks lacks = absurd (cc asks.brings)
   refused-from s d ops.Size asks lacks = absurd (cc asks.brings)
   refused-from s d (ops.Trunc n) asks lacks = absurd (cc asks.brings)
+  refused-from s d ops.Laminate asks lacks = absurd (cc asks.brings)
   refused-from s d ops.Unlink asks lacks = absurd (cc asks.brings)

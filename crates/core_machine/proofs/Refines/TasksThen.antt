@@ -53,6 +53,7 @@ looks-up s w d (ops.Read off len own) = by d where
   by (reading f) = cond_both (nat_lt f.fetched (length (runs f.marks))) _ _ (λ (e : Event). LooksUp f.version e.doing) (λ _. refl) (λ _. tt)
 looks-up s w d ops.Size = grind (arith)
 looks-up s w d (ops.Trunc n) = grind (arith)
+looks-up s w d ops.Laminate = grind (arith)
 looks-up s w d ops.Unlink = grind (arith)
 
 module _ {s : Job} {paths : List (List ℕ)} {states : List PathState} {answers : Given} {turns : Places} {tasks : List Task}

@@ -1,5 +1,5 @@
-//! What a sync, a truncation and an unlink share: each leaves nothing pending for its client. It
-//! touches what the client keeps for the path, and the slots of the logs.
+//! What a sync, a truncation, a lamination and an unlink share: each leaves nothing pending for its
+//! client. It touches what the client keeps for the path, and the slots of the logs.
 
 ghost use Rattle.std.specs.Prelude.{◌≡◌, ℕ, List, [], false, All, AllPairs, IfOk, OnOk};
 ghost use Rattle.fs_script.specs.Job.{Job};
@@ -21,22 +21,21 @@ use owner_book::Committed;
 use slot_plain::PlainLog;
 use std::alloc::Global;
 
-/// Answers a line that finds no file at version `v`, where the owner says this: what its client has
-/// pending is dropped, and its slots are let go of. After want of memory what the client keeps for
-/// the path is open.
-pub fn find_no_file<D: SpillDev + Drop>(
+/// Drops what a client has pending, where a line is refused by what the owner says of the path at
+/// version `v`: its slots are let go of, and the client notes what was said. After want of memory
+/// what the client keeps for the path is open.
+pub fn drop_pending<D: SpillDev + Drop>(
     alloc: Global,
     v: Version,
     attr: Attr,
     p: &Path,
     client: &mut Client,
     logs: &mut [PlainLog<D>],
-) -> Result<Answer, Want>
+) -> Result<(), Want>
     requires are_held { AreHeldPlain (pending_in client.old.pending p.now) }
     requires stand { (s : Job)
         × HoldsStand s logs.old (pending_in client.old.pending p.now).hold_of }
     requires once { AreInOneSlot logs.old }
-    ensures answer { IfOk result (λ a. a ≡ Answer.NoEnt v) }
     ensures noted { OnOk result ((lines : List ℕ) → own_of client.new p.now []
         ≡ record (own_of client.old p.now lines) {
           pending = pending_of client.new p.now [];
@@ -49,8 +48,7 @@ pub fn find_no_file<D: SpillDev + Drop>(
 {
     let push = client.take(p);
     release_all(logs, &push.holds);
-    client.note(alloc, p, v, attr)?;
-    Ok(Answer::NoEnt { v })
+    client.note(alloc, p, v, attr)
 }
 
 /// Answers a line that was committed: the holds that this handed out are let go of, and the client

@@ -11,7 +11,7 @@ ghost use Rattle.core_machine.specs.Follows.{EndsLine, EventSound};
 ghost use Rattle.core_machine.specs.Kept.{owned_of};
 ghost use Rattle.fs_script.specs.Vocabulary.{Job, after_answer};
 
-use super::emptying::{find_no_file, finish_commit};
+use super::emptying::{drop_pending, finish_commit};
 use crate::books::Book;
 use crate::client::Client;
 use crate::task::Task;
@@ -61,7 +61,12 @@ pub fn trunc<D: SpillDev + Drop>(
     }
     let (v, attr) = book.attr(gfid, p);
     if !attr.exists {
-        return find_no_file(alloc, v, attr, p, client, logs);
+        drop_pending(alloc, v, attr, p, client, logs)?;
+        return Ok(Answer::NoEnt { v });
+    }
+    if attr.frozen {
+        drop_pending(alloc, v, attr, p, client, logs)?;
+        return Ok(Answer::ReadOnly { v });
     }
     let push = client.take(p);
     let done = match book.trunc(alloc, gfid, p, n, size, push) {

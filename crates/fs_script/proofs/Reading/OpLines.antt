@@ -99,6 +99,7 @@ name_of kinds.Read = codes "read"
 name_of kinds.ReadOwn = codes "readown"
 name_of kinds.Size = codes "size"
 name_of kinds.Trunc = codes "trunc"
+name_of kinds.Laminate = codes "laminate"
 name_of kinds.Unlink = codes "unlink"
 
 kind_is : (w : List ℕ) (k : OpKind) → kind_of w ≡ Some k → w ≡ name_of k
@@ -111,7 +112,8 @@ kind_is w k e =
     (λ e5. choice P (bytes_eq w (codes "readown")) _ _ (Some k) e5 (at kinds.ReadOwn)
     (λ e6. choice P (bytes_eq w (codes "size")) _ _ (Some k) e6 (at kinds.Size)
     (λ e7. choice P (bytes_eq w (codes "trunc")) _ _ (Some k) e7 (at kinds.Trunc)
-    (λ e8. choice P (bytes_eq w (codes "unlink")) _ _ (Some k) e8 (at kinds.Unlink) (λ none. absurd cc)))))))))
+    (λ e8. choice P (bytes_eq w (codes "laminate")) _ _ (Some k) e8 (at kinds.Laminate)
+    (λ e9. choice P (bytes_eq w (codes "unlink")) _ _ (Some k) e9 (at kinds.Unlink) (λ none. absurd cc))))))))))
   where
     P : Type 0
     P = w ≡ name_of k
@@ -175,6 +177,7 @@ op_of_kind_is kinds.Trunc ws x e =
     let path = path_is a.0.0 b.0 b.1 in
     let size = number_up_to_is LONGEST_FILE a.0.1 c.0 c.1 in
     subst (SaysOp (codes "trunc" ∷ ws)) (ok_is (b.0, ops.Trunc c.0) x c.2) (path.0, size.0, cc)
+op_of_kind_is kinds.Laminate ws x e = alone_op_is ops.Laminate (codes "laminate") ws x tt (λ p. refl) e
 op_of_kind_is kinds.Unlink ws x e = alone_op_is ops.Unlink (codes "unlink") ws x tt (λ p. refl) e
 
 op_is : (ws : List (List ℕ)) (x : List ℕ × Op) → op_of_words ws ≡ Ok x → SaysOp ws x
@@ -237,6 +240,7 @@ op_again (ops.Read off len true) p path i = read_again true off len p path i
 op_again (ops.Trunc n) p path i =
     let lt : n < 2 ^ 64 = omega (arith, i) in
     rw (path, text_is_number n lt, le-leb n LONGEST_FILE i) refl
+op_again ops.Laminate p path i = rw path refl
 op_again ops.Unlink p path i = rw path refl
 
 data_is_word : (d : Data) → IsData d → IsWord 32 (data_text d)
@@ -260,6 +264,7 @@ words_fit ops.Sync p i w = (refl, (w, tt))
 words_fit (ops.Read off len own) p i w =
     (is_word-read_word own, (w, (is_word-decimal 32 off refl i.0, (is_word-decimal 32 len refl (omega (arith, i.1)), tt))))
 words_fit (ops.Trunc n) p i w = (refl, (w, (is_word-decimal 32 n refl (omega (arith, i)), tt)))
+words_fit ops.Laminate p i w = (refl, (w, tt))
 words_fit ops.Unlink p i w = (refl, (w, tt))
 
 -- a text that begins with a digit is no note and no barrier
@@ -280,6 +285,7 @@ rank_first r ops.Sync p = refl
 rank_first r (ops.Read off len false) p = refl
 rank_first r (ops.Read off len true) p = refl
 rank_first r (ops.Trunc n) p = refl
+rank_first r ops.Laminate p = refl
 rank_first r ops.Unlink p = refl
 
 op_line_again : (h : Shape) (o : OpLine) → h.clients < 2 ^ 64 → IsOpLine h o → line_of h (op_text o) ≡ Ok (lines.Op o)

@@ -62,6 +62,7 @@ module _ (n : ℕ) where
   op kinds.ReadOwn words = search steps depth 12
   op kinds.Size words = search steps
   op kinds.Trunc words = search steps depth 12
+  op kinds.Laminate words = search steps
   op kinds.Unlink words = search steps
 
   op_words : (words : List (List ℕ)) → Faults OfLine (op_of_words words)

@@ -29,6 +29,7 @@ kind_of word =
     else if bytes_eq word (codes "readown") then Some kinds.ReadOwn
     else if bytes_eq word (codes "size") then Some kinds.Size
     else if bytes_eq word (codes "trunc") then Some kinds.Trunc
+    else if bytes_eq word (codes "laminate") then Some kinds.Laminate
     else if bytes_eq word (codes "unlink") then Some kinds.Unlink
     else None
 
@@ -74,6 +75,9 @@ op_of_kind kinds.Trunc words = do
   path ← path_of two.0
   n ← length_of two.1
   Ok (path, ops.Trunc n)
+op_of_kind kinds.Laminate words = do
+  path ← path_alone words
+  Ok (path, ops.Laminate)
 op_of_kind kinds.Unlink words = do
   path ← path_alone words
   Ok (path, ops.Unlink)

@@ -71,6 +71,7 @@ fn op_of_kind(alloc: Global, kind: OpKind, words: Tokens<'_>) -> Result<(Path, O
         OpKind::ReadOwn => read(alloc, true, words),
         OpKind::Size => Ok((path_alone(alloc, words)?, Op::Size)),
         OpKind::Trunc => trunc(alloc, words),
+        OpKind::Laminate => Ok((path_alone(alloc, words)?, Op::Laminate)),
         OpKind::Unlink => Ok((path_alone(alloc, words)?, Op::Unlink)),
     }
 }

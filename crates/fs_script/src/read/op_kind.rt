@@ -14,6 +14,7 @@ pub enum OpKind {
     ReadOwn,
     Size,
     Trunc,
+    Laminate,
     Unlink,
 }
 
@@ -38,6 +39,8 @@ impl OpKind {
             Some(OpKind::Size)
         } else if word == b"trunc".as_slice() {
             Some(OpKind::Trunc)
+        } else if word == b"laminate".as_slice() {
+            Some(OpKind::Laminate)
         } else if word == b"unlink".as_slice() {
             Some(OpKind::Unlink)
         } else {

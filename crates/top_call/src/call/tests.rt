@@ -1,4 +1,5 @@
 mod cases;
+mod frozen;
 mod lives;
 mod many_clients;
 mod many_writes;
@@ -7,6 +8,7 @@ mod refusals;
 use self::cases::{
     CASES, FIVE_LINES, FIVE_LINES_REPORT, READ_BESIDE_SYNC, READ_BESIDE_SYNC_REPORTS,
 };
+use self::frozen::FROZEN_FILES;
 use self::lives::LIVES;
 use self::many_clients::{neighbours_job, neighbours_report};
 use self::many_writes::{overwriting_job, overwriting_report};
@@ -63,7 +65,7 @@ fn ended_calm(alloc: Global, texts: &[&str], bytes: &[u8]) -> Result<(Status, Me
 
 #[test]
 fn each_call_has_its_status_and_output(rt: HostRuntime) -> Result<(), Fail> {
-    for cases in [CASES.as_slice(), LIVES.as_slice()] {
+    for cases in [CASES.as_slice(), LIVES.as_slice(), FROZEN_FILES.as_slice()] {
         for (i, (texts, bytes, status, output)) in cases.iter().enumerate() {
             let (ends, sink) = ended(&rt, rt.alloc(), texts, bytes)?;
             assert!(rt; ends == *status && sink.bytes() == *output, "case {i}");

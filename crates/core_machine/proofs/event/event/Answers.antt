@@ -2,7 +2,7 @@
 use Rattle.fs_types.proofs.Common.{refl, subst}
 use Rattle.fs_script.specs.Grammar.{IsOp}
 use Rattle.fs_script.proofs.CallerLemmas.{IsOpLine-from_job}
-use Rattle.fs_script.specs.declared.line.Op.TheVariants.{Create, Open, Size, Sync, Trunc, Unlink, Write}
+use Rattle.fs_script.specs.declared.line.Op.TheVariants.{Create, Laminate, Open, Size, Sync, Trunc, Unlink, Write}
 use Rattle.client_files.specs.Kept.{told_in}
 use Rattle.core_machine.specs.ClientPath.{own_of}
 use Rattle.core_machine.specs.Kept.{owned_in}
@@ -97,6 +97,24 @@ returns-in_ok-trunc-in-Trunc-clause-whole g c = rw c.in-Trunc.is (λ lines sound
     (owned_in c.trunc.new.book c.args.gfid c.args.o.now.path c.args.board.now) _ c.in_ok-trunc-in-Trunc.field-0 c.trunc.new.logs
     (c.in_ok-trunc-in-Trunc.ensures.done c.args.s.now lines (told_in c.args.board.now c.args.o.now.path) c.args.o.now.rank
     (sound-idle c.args.s.now c.args.n (Trunc c.in-Trunc.size) c.args.o.now.rank x k c.args.logs.now c.args.task.now refl sound)).sound)
+
+pub returns-in_ok-laminate-in-Laminate-clause-follows : goal.returns-in_ok-laminate-in-Laminate-clause-follows
+returns-in_ok-laminate-in-Laminate-clause-follows g c = rw c.in-Laminate.is (λ lines sound.
+    let x = owned_in c.args.book.now c.args.gfid c.args.o.now.path c.args.board.now in
+    let k = own_of c.args.client.now c.args.o.now.path lines in
+    follows-line c.args.s.now c.args.n Laminate c.args.o.now.rank x k c.args.logs.now c.args.task.now refl sound
+    (owned_in c.laminate.new.book c.args.gfid c.args.o.now.path c.args.board.now) _ c.in_ok-laminate-in-Laminate.field-0 c.laminate.new.logs
+    (c.in_ok-laminate-in-Laminate.ensures.done c.args.s.now lines (told_in c.args.board.now c.args.o.now.path) c.args.o.now.rank
+    (sound-idle c.args.s.now c.args.n Laminate c.args.o.now.rank x k c.args.logs.now c.args.task.now refl sound)))
+
+pub returns-in_ok-laminate-in-Laminate-clause-whole : goal.returns-in_ok-laminate-in-Laminate-clause-whole
+returns-in_ok-laminate-in-Laminate-clause-whole g c = rw c.in-Laminate.is (λ lines sound.
+    let x = owned_in c.args.book.now c.args.gfid c.args.o.now.path c.args.board.now in
+    let k = own_of c.args.client.now c.args.o.now.path lines in
+    whole-then c.args.s.now c.args.n Laminate c.args.o.now.rank x k c.args.logs.now c.args.task.now refl sound
+    (owned_in c.laminate.new.book c.args.gfid c.args.o.now.path c.args.board.now) _ c.in_ok-laminate-in-Laminate.field-0 c.laminate.new.logs
+    (c.in_ok-laminate-in-Laminate.ensures.done c.args.s.now lines (told_in c.args.board.now c.args.o.now.path) c.args.o.now.rank
+    (sound-idle c.args.s.now c.args.n Laminate c.args.o.now.rank x k c.args.logs.now c.args.task.now refl sound)).sound)
 
 pub returns-in_ok-unlink-in-Unlink-clause-follows : goal.returns-in_ok-unlink-in-Unlink-clause-follows
 returns-in_ok-unlink-in-Unlink-clause-follows g c = rw c.in-Unlink.is (λ lines sound.

@@ -1,6 +1,7 @@
 -- What a sync leaves: the path as it was where it commits nothing, and else with the push of what was pending over its file.
 use Rattle.fs_types.proofs.Common.{◌≡◌, ◌∙◌, ℕ, List, [], ap, arith, common_steps, false, false≢true, refl, sym, true}
 use Rattle.std.proofs.lemmas.Result.{on_ok_weaker}
+use Rattle.fs_types.specs.declared.answer.Answer.TheVariants as answers
 use Rattle.fs_script.specs.Vocabulary.{Job}
 use Rattle.fs_script.specs.declared.line.Op.TheVariants.{Sync}
 use Rattle.client_files.specs.Noted.{later_of}
@@ -14,11 +15,11 @@ use Rattle.core_machine.specs.Kept.{noted_of, owned_of}
 use Rattle.core_machine.proofs.BooksOfPaths.{ChangesOne-changed, ChangesOne-same, path-changed}
 use Rattle.core_machine.proofs.EmptiedLines.{CommitsLine, apart-committed, elsewhere-then, ends-closed, ends-committed, ends-refused}
 use Rattle.core_machine.proofs.EmptiedLines.{own-taken}
-use Rattle.core_machine.proofs.EventsFollow.{told-file}
+use Rattle.core_machine.proofs.EventsFollow.{told-file, told-frozen, told-none}
 use Rattle.core_machine.proofs.HeldPieces.{no-line, some-line}
 use Rattle.core_machine.proofs.LetGo.{idle_kept}
 use Rattle.core_machine.proofs.PushedPending.{may-commit}
-use Rattle.core_machine.proofs.SyncEvents.{closed-sync, commits-synced, ends-empty, refused-sync}
+use Rattle.core_machine.proofs.SyncEvents.{closed-sync, commits-synced, ends-empty, frozen-sync, refused-sync}
 use Rattle.core_machine.proofs.event.sync.sync.Goals as goal
 use Rattle.core_machine.proofs.event.sync.sync.Goals.{In-Ok}
 use Rattle.core_machine.proofs.event.sync.sync.Given.{Over}
@@ -34,11 +35,23 @@ returns-then-not-attr-clause-done g c = λ s lines told r sound.
     let x = owned_of (path_in c.args.book.now c.args.gfid c.args.p.now) told in
     let k = own_of c.args.client.now c.args.p.now lines in
     let absent : c.attr-v.result.1.exists ≡ false = grind (arith, common_steps) in
-    let did = c.find_no_file.ensures in
-    ends-refused s c.args.n Sync r x k c.args.logs.now sound c.attr-v.result (own_of c.find_no_file.new.client c.args.p.now)
-    c.find_no_file.new.logs c.attr-v.ensures.attr absent (refused-sync s x k (sym c.if-not-is_open.ensures)) (λ v. refl)
-    c.find_no_file.result did.answer (on_ok_weaker c.find_no_file.result (λ f. f lines) did.noted)
-    (on_ok_weaker c.find_no_file.result (λ f. f lines) did.drops)
+    ends-refused s c.args.n Sync r x k c.args.logs.now sound answers.NoEnt c.attr-v.result (own_of c.drop_pending.new.client c.args.p.now)
+    c.drop_pending.new.logs c.attr-v.ensures.attr
+    (refused-sync s x k (sym c.if-not-is_open.ensures) (told-none c.attr-v.result x.path c.attr-v.ensures.attr absent))
+    refl refl refl (c.in_ok-drop_pending.ensures.noted lines) (c.in_ok-drop_pending.ensures.drops lines)
+
+pub returns-then-attr-clause-done : goal.returns-then-attr-clause-done
+returns-then-attr-clause-done g c = λ s lines told r sound.
+    let x = owned_of (path_in c.args.book.now c.args.gfid c.args.p.now) told in
+    let k = own_of c.args.client.now c.args.p.now lines in
+    let there : c.attr-v.result.1.exists ≡ true = grind (arith, common_steps) in
+    let frozen : c.attr-v.result.1.frozen ≡ true = grind (arith, common_steps) in
+    let f = told-file c.attr-v.result x.path c.attr-v.ensures.attr there in
+    ends-refused s c.args.n Sync r x k c.args.logs.now sound answers.ReadOnly c.attr-v.result (own_of c.drop_pending-then-attr.new.client c.args.p.now)
+    c.drop_pending-then-attr.new.logs c.attr-v.ensures.attr
+    (frozen-sync s x k f.0 (sym c.if-not-is_open.ensures) f.1
+    (told-frozen c.attr-v.result x.path f.0 c.attr-v.ensures.attr f.1 ∙ frozen) (some-line s k.pending sound.whole.sound.pending (c.if-not-has.ensures.0 refl)))
+    refl refl refl (c.in_ok-drop_pending-2.ensures.noted lines) (c.in_ok-drop_pending-2.ensures.drops lines)
 
 pub returns-then-not-has-clause-done : goal.returns-then-not-has-clause-done
 returns-then-not-has-clause-done g c = λ s lines told r sound.
@@ -73,9 +86,11 @@ module _ (g : Over) (c : In-Ok g) (s : Job) (lines : List ℕ) (told : Noted) (r
       let k = own_of c.args.client.now c.args.p.now lines in
       let x = path_in c.args.book.now c.args.gfid c.args.p.now in
       let there : c.attr-v.result.1.exists ≡ true = grind (arith, common_steps) in
+      let unfrozen : c.attr-v.result.1.frozen ≡ false = grind (arith, common_steps) in
       let f = told-file c.attr-v.result x c.attr-v.ensures.attr there in
       commits-synced s c.args.n x (path_in c.commit.new.self c.args.gfid c.args.p.now) told k f.0 c.take-push.result
-      c.in-Ok.done.dead.items sound.whole.sound f.1 (sym c.if-not-is_open.ensures)
+      c.in-Ok.done.dead.items sound.whole.sound f.1 (told-frozen c.attr-v.result x f.0 c.attr-v.ensures.attr f.1 ∙ unfrozen)
+      (sym c.if-not-is_open.ensures)
       (some-line s k.pending sound.whole.sound.pending (c.if-not-has.ensures.0 refl)) refl c.take-push.ensures.push
       (path-changed c.args.book.now c.commit.new.self c.args.gfid c.args.p.now
       (with_commit (λ (h : PlainHold). h.piece) c.args.n c.take-push.result x) c.in-Ok.ensures.committed)

@@ -2,6 +2,7 @@
 -- pending went.
 use Rattle.fs_types.proofs.Common.{◌≡◌, ◌∙◌, ◌++◌, ℕ, List, [], ap, arith, common_steps, false, refl, sym, true}
 use Rattle.std.proofs.lemmas.Result.{on_ok_weaker}
+use Rattle.fs_types.specs.declared.answer.Answer.TheVariants as answers
 use Rattle.fs_script.specs.Vocabulary.{Job}
 use Rattle.fs_script.specs.declared.line.Op.TheVariants.{Unlink}
 use Rattle.client_files.specs.declared.noted.Noted.{Noted}
@@ -14,7 +15,7 @@ use Rattle.core_machine.specs.Kept.{noted_of, owned_of}
 use Rattle.core_machine.proofs.BooksOfPaths.{ChangesOne-changed, ChangesOne-same, path-changed}
 use Rattle.core_machine.proofs.EmptiedLines.{CommitsLine, apart-committed, elsewhere-then, ends-closed, ends-committed, ends-refused}
 use Rattle.core_machine.proofs.EmptiedLines.{held-committed, own-taken}
-use Rattle.core_machine.proofs.EventsFollow.{told-file}
+use Rattle.core_machine.proofs.EventsFollow.{told-file, told-none}
 use Rattle.core_machine.proofs.LetGo.{idle_kept}
 use Rattle.core_machine.proofs.PushedPending.{gone-pushed}
 use Rattle.core_machine.proofs.UnlinkEvents.{closed-unlink, commits-unlinked, refused-unlink}
@@ -33,11 +34,10 @@ returns-then-not-attr-clause-done g c = λ s lines told r sound.
     let x = owned_of (path_in c.args.book.now c.args.gfid c.args.p.now) told in
     let k = own_of c.args.client.now c.args.p.now lines in
     let absent : c.attr-v.result.1.exists ≡ false = grind (arith, common_steps) in
-    let did = c.find_no_file.ensures in
-    ends-refused s c.args.n Unlink r x k c.args.logs.now sound c.attr-v.result (own_of c.find_no_file.new.client c.args.p.now)
-    c.find_no_file.new.logs c.attr-v.ensures.attr absent (refused-unlink s x k (sym c.if-not-is_open.ensures)) (λ v. refl)
-    c.find_no_file.result did.answer (on_ok_weaker c.find_no_file.result (λ f. f lines) did.noted)
-    (on_ok_weaker c.find_no_file.result (λ f. f lines) did.drops)
+    ends-refused s c.args.n Unlink r x k c.args.logs.now sound answers.NoEnt c.attr-v.result (own_of c.drop_pending.new.client c.args.p.now)
+    c.drop_pending.new.logs c.attr-v.ensures.attr
+    (refused-unlink s x k (sym c.if-not-is_open.ensures) (told-none c.attr-v.result x.path c.attr-v.ensures.attr absent))
+    refl refl refl (c.in_ok-drop_pending.ensures.noted lines) (c.in_ok-drop_pending.ensures.drops lines)
 
 pub returns-in-Err-Want-clause-others : goal.returns-in-Err-Want-clause-others
 returns-in-Err-Want-clause-others g c =
