@@ -5,6 +5,7 @@ pub mod ReadRuns
 pub mod PathTable
 pub mod Gfids
 pub mod Doing
+pub mod Sends
 pub mod Moment
 pub mod EventsLeft
 pub mod Slots

@@ -93,6 +93,7 @@ abc_was_written = record {
     op = on_a (ops.Write 0 (Text (codes "abc")));
     is = refl;
     turn = refl;
+    quiet = refl;
     next = refl;
   };
   gives = refl;

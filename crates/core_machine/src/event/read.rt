@@ -200,14 +200,18 @@ pub fn read<D: SpillDev + Drop>(
     ensures same { IsAsBefore book.old book.new }
     ensures elsewhere { ChangesOwn client.old client.new p.now }
 {
-    if let Task::Read(t) = task {
-        if t.fetched < t.runs.len() {
-            fetch_next(t, logs);
-            return Ok(None);
+    match task {
+        Task::Read(t) => {
+            if t.fetched < t.runs.len() {
+                fetch_next(t, logs);
+                return Ok(None);
+            }
+            let answer = finish(alloc, t, p, client, logs)?;
+            *task = Task::Idle;
+            return Ok(Some(answer));
         }
-        let answer = finish(alloc, t, p, client, logs)?;
-        *task = Task::Idle;
-        return Ok(Some(answer));
+        Task::Send(_) => unreachable!(),
+        Task::Idle => {}
     }
     if !client.files.is_open(p) {
         return Ok(Some(Answer::BadF));
