@@ -1,5 +1,5 @@
 -- Lines of operations that leave nothing pending for their client: what is kept after them, and what they let go of.
-use Rattle.fs_types.proofs.Common.{◌≡◌, ℕ, ◌+◌, ◌++◌, ◌∷◌, ◌||◌, [], true, false, List, length}
+use Rattle.fs_types.proofs.Common.{◌≡◌, ℕ, ◌+◌, ◌++◌, ◌∷◌, ◌||◌, [], true, false, if◌then◌else◌, List, length}
 use Rattle.fs_types.proofs.Common.{All, IfSome, nil_from_length, refl, sym, ap, ◌∙◌, subst}
 use Rattle.fs_types.proofs.Common.{Option, Some, None, is_some, false≢true, Err, IfOk, Ok, OnOk, Result}
 use Rattle.std.proofs.Math.Bool.{and-false}
@@ -13,6 +13,7 @@ use Rattle.fs_script.specs.Operations.{opens_path}
 use Rattle.fs_script.specs.AnswerKinds.{version_of}
 use Rattle.fs_script.specs.Vocabulary.{Job, Piece, after_answer, effect_of, marks_in, opens}
 use Rattle.fs_script.specs.declared.line.Op.{Op}
+use Rattle.piece_table.specs.HeldSpans.{is_named}
 use Rattle.client_files.specs.Kept.{KeptFiles, is_open_in, noted_in}
 use Rattle.client_files.specs.Noted.{later_of}
 use Rattle.client_files.specs.declared.noted.Noted.{Noted}
@@ -22,9 +23,9 @@ use Rattle.owner_book.proofs.CallerLemmas.{holds-none}
 use Rattle.owner_book.specs.declared.committed.Committed.{Committed}
 use Rattle.core_machine.specs.BookFiles.{IsFile}
 use Rattle.core_machine.specs.ClientPath.{ChangesOwn, ClientPath, Pending, own_of, pending_of}
-use Rattle.core_machine.specs.Event.{Event, answered, committed_with}
+use Rattle.core_machine.specs.Event.{Event, answered, committed_as}
 use Rattle.core_machine.specs.Follows.{Ends, EndsLine, EndsQuietly, EventSound, kept_event}
-use Rattle.core_machine.specs.Kept.{OwnedPath, file_marks, noted_now, noted_of, owned_of, pending_hold, pending_lines}
+use Rattle.core_machine.specs.Kept.{OwnedPath, file_hold, file_marks, noted_now, noted_of, owned_of, pending_hold, pending_lines}
 use Rattle.core_machine.specs.Logs.{IsHeld, ReleasesAll, are_of_one_slot}
 use Rattle.core_machine.specs.PendingWrites.{ArePending, DropsPending, IsNonePending}
 use Rattle.core_machine.specs.PlainHolds.{AreHeldPlain}
@@ -69,7 +70,7 @@ emptied l p q is none = ap (λ (w : Pending). w.held.hold_of q) is ∙ none.hold
 module _ (s : Job) (n : ℕ) (op : Op) (r : ℕ) (x : OwnedPath) (k : ClientPath) (logs : List Log)
     (before : EventSound s n op r (idle_kept x k logs)) where
   -- no hold is let go of
-  pub ends-quietly : (y : OwnedPath) (l : ClientPath) (a : Answer) → EndsQuietly s n op x k y l a → EndsLine s n op x k logs y l logs None a
+  pub ends-quietly : (y : OwnedPath) (l : ClientPath) (a : Answer) → EndsQuietly s n op x k y l a → EndsLine s n op x k logs y l logs a
   ends-quietly y l a quiet = record {
     ends = quiet.ends;
     follows = quiet.follows;
@@ -79,7 +80,7 @@ module _ (s : Job) (n : ℕ) (op : Op) (r : ℕ) (x : OwnedPath) (k : ClientPath
 
   -- the path wasn't open
   pub ends-closed : ((free : ℕ) → kept_event s x k free Idle op ≡ answered answers.BadF)
-      → after_answer op answers.BadF n (pending_lines k) ≡ pending_lines k → EndsLine s n op x k logs x k logs None answers.BadF
+      → after_answer op answers.BadF n (pending_lines k) ≡ pending_lines k → EndsLine s n op x k logs x k logs answers.BadF
   ends-closed event lines = ends-quietly x k answers.BadF
       (follow.ends-answered s n op x k k answers.BadF event (notes-none x k Idle answers.BadF refl)
       (sym (ap (λ b. b || k.is_open) (and-false (opens_path op)))) lines refl before.whole.sound)
@@ -111,10 +112,10 @@ module _ (s : Job) (n : ℕ) (op : Op) (r : ℕ) (x : OwnedPath) (k : ClientPath
           l.pending.held drops.gone (nil_from_length l.pending.held.fragments drops.none.fragments) drops.are_gone);
     }) s logs before.stand
 
-    dropped : EndsLine s n op x k logs x l new None (refused told.0)
+    dropped : EndsLine s n op x k logs x l new (refused told.0)
     dropped = record {
-      ends = λ free. subst (λ e. Ends e false None (refused told.0)) (sym (refusal free))
-          (record { answer = refl; doing = refl; filling = refl; sending = refl });
+      ends = λ free. subst (λ e. Ends e false (refused told.0)) (sym (refusal free))
+          (record { answer = refl; doing = refl; filling = refl });
       follows = λ free. follow.follows-noted s n op Idle (kept_event s x k free Idle op) x k l (refused told.0)
           (ap (λ (e : Event). e.commits) (event free))
           (notes-told x k Idle (refused told.0) told l.noted same (ap (λ (w : ClientPath). w.noted) noted) prints)
@@ -129,17 +130,15 @@ module _ (s : Job) (n : ℕ) (op : Op) (r : ℕ) (x : OwnedPath) (k : ClientPath
       };
     }
 
-    pub ends-refused : EndsLine s n op x k logs x (at (after_answer op (refused told.0) n (pending_lines k))) new None (refused told.0)
-    ends-refused = subst (λ ns. EndsLine s n op x k logs x (at ns) new None (refused told.0)) (sym lines) dropped
+    pub ends-refused : EndsLine s n op x k logs x (at (after_answer op (refused told.0) n (pending_lines k))) new (refused told.0)
+    ends-refused = subst (λ ns. EndsLine s n op x k logs x (at ns) new (refused told.0)) (sym lines) dropped
 
 -- ---- lines that were committed
 
--- line n, the operation op, was committed to the path x and made it y: it leaves nothing pending, these holds went, and the other
--- servers are told what its answer says, if they are told anything
+-- line n, the operation op, was committed to the path x and made it y: it leaves nothing pending, and these holds went
 pub record CommitsLine (s : Job) (n : ℕ) (op : Op) (x y : BookPath PlainHold) (told : Noted) (k : ClientPath)
-    (gone : List PlainHold) (tells : Answer → Option ℕ) : Type 0 where
-  pub event : (free : ℕ) → kept_event s (owned_of x told) k free Idle op
-      ≡ committed_with (tells (answers.Done (length x.journal + 1))) (length x.journal + 1)
+    (gone : List PlainHold) : Type 0 where
+  pub event : (free : ℕ) → kept_event s (owned_of x told) k free Idle op ≡ committed_as (length x.journal + 1)
   pub lines : (v : ℕ) → after_answer op (answers.Done v) n (pending_lines k) ≡ []
   pub opened : (v : ℕ) → opens op (answers.Done v) ≡ false
   pub journal : y.journal ≡ x.journal ++ n ∷ []
@@ -149,7 +148,7 @@ pub record CommitsLine (s : Job) (n : ℕ) (op : Op) (x y : BookPath PlainHold) 
 
 module _ (s : Job) (n : ℕ) (op : Op) (r : ℕ) (x y : BookPath PlainHold) (told : Noted) (k : ClientPath) (logs : List Log) (p : Pending)
     (done : Committed PlainHold) (before : EventSound s n op r (idle_kept (owned_of x told) k logs)) (nothing : IsNonePending p)
-    {tells : Answer → Option ℕ} (commits : CommitsLine s n op x y told k done.dead.items tells) where
+    (commits : CommitsLine s n op x y told k done.dead.items) where
   leaves-committed : (l : ClientPath) → l.pending ≡ p → LeavesKept (owned_of x told) (owned_of y told) k l done.dead.items
   leaves-committed l is = leaves-emptied (owned_of x told) k before.whole.sound.pending.are_held (owned_of y told) l done.dead.items
       (commits.empties l (λ q. emptied l p q is nothing)) s logs before.stand
@@ -171,11 +170,11 @@ module _ (s : Job) (n : ℕ) (op : Op) (r : ℕ) (x y : BookPath PlainHold) (tol
     noted_is = λ i. record { version = shows i; attr = same i }
 
     done-line : now ≡ record k { pending = p; noted = later_of k.noted (noted_of done) } → ReleasesAll done.dead.items logs new
-        → EndsLine s n op (owned_of x told) k logs (owned_of y told) now new (tells (answers.Done done.v)) (answers.Done done.v)
+        → EndsLine s n op (owned_of x told) k logs (owned_of y told) now new (answers.Done done.v)
     done-line is released = record {
-      ends = λ free. follow.ends-committed s n op (kept_event s (owned_of x told) k free Idle op) x y told k now done.v tells
-          (commits.event free) commits.journal shows;
-      follows = λ free. follow.follows-committed s n op (kept_event s (owned_of x told) k free Idle op) x y told k now done.v tells
+      ends = λ free. follow.ends-committed s n op (kept_event s (owned_of x told) k free Idle op) x y told k now done.v (commits.event free)
+          commits.journal shows;
+      follows = λ free. follow.follows-committed s n op (kept_event s (owned_of x told) k free Idle op) x y told k now done.v
           (commits.event free) commits.journal shows commits.marks
           (ap (λ (w : ClientPath). w.noted) is ∙ ap (later_of k.noted) noted_is)
           (ap (λ (w : ClientPath). w.is_open) is ∙ sym (ap (λ b. b || k.is_open) (commits.opened done.v)))
@@ -196,10 +195,9 @@ module _ (s : Job) (n : ℕ) (op : Op) (r : ℕ) (x y : BookPath PlainHold) (tol
 
     pub ends-committed : (result : Result Answer Want) → IfOk result (λ a. a ≡ answers.Done done.v)
         → OnOk result (now ≡ record k { pending = p; noted = later_of k.noted (noted_of done) }) → ReleasesAll done.dead.items logs new
-        → IfOk result (λ a. EndsLine s n op (owned_of x told) k logs (owned_of y told) (at (after_answer op a n (pending_lines k))) new (tells a) a)
+        → IfOk result (λ a. EndsLine s n op (owned_of x told) k logs (owned_of y told) (at (after_answer op a n (pending_lines k))) new a)
     ends-committed (Err e) answer is released = tt
     ends-committed (Ok a) answer is released =
-        subst (λ b. EndsLine s n op (owned_of x told) k logs (owned_of y told) (at (after_answer op b n (pending_lines k))) new (tells b) b)
-        (sym answer)
-        (subst (λ ns. EndsLine s n op (owned_of x told) k logs (owned_of y told) (at ns) new (tells (answers.Done done.v)) (answers.Done done.v))
-        (sym (commits.lines done.v)) (done-line is released))
+        subst (λ b. EndsLine s n op (owned_of x told) k logs (owned_of y told) (at (after_answer op b n (pending_lines k))) new b) (sym answer)
+        (subst (λ ns. EndsLine s n op (owned_of x told) k logs (owned_of y told) (at ns) new (answers.Done done.v)) (sym (commits.lines done.v))
+        (done-line is released))

@@ -14,7 +14,7 @@ use Rattle.client_files.specs.Noted.{later_of}
 use Rattle.client_files.specs.declared.noted.Noted.{Noted}
 use Rattle.client_files.proofs.CallerLemmas.{version-later_of}
 use Rattle.core_machine.specs.ClientPath.{ClientPath, Pending}
-use Rattle.core_machine.specs.Event.{Event, answered, committed_with, known_of}
+use Rattle.core_machine.specs.Event.{Event, answered, committed_as, known_of}
 use Rattle.core_machine.specs.Follows.{Ends, Follows, EndsQuietly, Knows, KnowsLookedUp, LookedUpWithin, kept_event}
 use Rattle.core_machine.specs.HoldsKept.{keeps}
 use Rattle.core_machine.specs.Kept.{AreSound, OwnedPath, file_hold, file_marks, noted_now, owned_of, pending_hold}
@@ -154,7 +154,7 @@ module _ (s : Job) (n : ℕ) (op : Op) (x : OwnedPath) (k l : ClientPath) (a : A
 
   pub ends-answered : AreSound s x k → EndsQuietly s n op x k x l a
   ends-answered sound = record {
-    ends = λ free. subst (λ e. Ends e false None a) (sym (event free)) (record { answer = refl; doing = refl; filling = refl; sending = refl });
+    ends = λ free. subst (λ e. Ends e false a) (sym (event free)) (record { answer = refl; doing = refl; filling = refl });
     follows = λ free. follows-noted s n op Idle (kept_event s x k free Idle op) x k l a (ap (λ (e : Event). e.commits) (event free)) notes
         opened (ap (λ (p : Pending). p.lines) same ∙ sym lines) (λ q there. ap is_some (sym (holds q)) ∙ there);
     holds = record { files = λ q. refl; pending = holds };
@@ -164,15 +164,13 @@ module _ (s : Job) (n : ℕ) (op : Op) (x : OwnedPath) (k l : ClientPath) (a : A
 -- ---- events that commit their line
 
 module _ (s : Job) (n : ℕ) (op : Op) (e : Event) (x y : BookPath PlainHold) (told : Noted) (k l : ClientPath) (v : ℕ)
-    (tells : Answer → Option ℕ) (event : e ≡ committed_with (tells (answers.Done (length x.journal + 1))) (length x.journal + 1))
-    (journal : y.journal ≡ x.journal ++ n ∷ []) (shows : v ≡ version y) where
+    (event : e ≡ committed_as (length x.journal + 1)) (journal : y.journal ≡ x.journal ++ n ∷ []) (shows : v ≡ version y) where
   longer : version y ≡ length x.journal + 1
   longer = ap length journal ∙ length_push x.journal n
 
-  pub ends-committed : Ends e false (tells (answers.Done v)) (answers.Done v)
-  ends-committed = subst (λ f. Ends f false (tells (answers.Done v)) (answers.Done v))
-      (sym (event ∙ ap (λ u. committed_with (tells (answers.Done u)) u) (sym (shows ∙ longer))))
-      (record { answer = refl; doing = refl; filling = refl; sending = refl })
+  pub ends-committed : Ends e false (answers.Done v)
+  ends-committed = subst (λ f. Ends f false (answers.Done v)) (sym (event ∙ ap committed_as (sym (shows ∙ longer))))
+      (record { answer = refl; doing = refl; filling = refl })
 
   pub follows-committed : file_marks y.file ≡ effect_of s (marks_in s) op (pending_lines k) (file_marks x.file)
       → l.noted ≡ later_of k.noted (noted_now y) → l.is_open ≡ (opens op (answers.Done v) || k.is_open)

@@ -74,8 +74,8 @@ module _ (s : Job) (n : ℕ) (x y : BookPath PlainHold) (told : Noted) (k l : Cl
       let same = ap attr (sym changed) in
       let pending = ap (λ (w : ClientPath). w.pending) is in
       record {
-        ends = λ free. ends-committed s n ops.Create _ x y told k l v (λ _. None) (event free) journal shows;
-        follows = λ free. follows-committed s n ops.Create _ x y told k l v (λ _. None) (event free) journal shows
+        ends = λ free. ends-committed s n ops.Create _ x y told k l v (event free) journal shows;
+        follows = λ free. follows-committed s n ops.Create _ x y told k l v (event free) journal shows
             (ap (λ (p : BookPath PlainHold). file_marks p.file) changed
             ∙ sym (ap (λ o. effect_of s (marks_in s) ops.Create (pending_lines k) (file_marks o)) none))
             (ap (λ (w : ClientPath). w.noted) is ∙ (λ i. later_of k.noted (record { version = shows i; attr = same i })))

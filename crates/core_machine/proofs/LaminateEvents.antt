@@ -1,20 +1,23 @@
 -- A lamination: its events, and what it makes of the file.
-use Rattle.fs_types.proofs.Common.{◌≡◌, ℕ, ◌+◌, true, false, List, length, Some, None, IfSome}
+use Rattle.fs_types.proofs.Common.{◌≡◌, ℕ, ◌+◌, true, false, List, [], length, Some, None, IfSome}
 use Rattle.fs_types.proofs.Common.{option_map, refl, sym, ap, ◌∙◌, subst}
 use Rattle.fs_types.specs.declared.answer.Answer.TheVariants as answers
+use Rattle.fs_types.specs.declared.attr.Attr.{Attr}
 use Rattle.fs_types.specs.declared.push.Push.{Push}
-use Rattle.fs_script.specs.Vocabulary.{Job, done_at, effect_of, marks_in, put_lines}
+use Rattle.slot_plain.specs.Log.{Log}
+use Rattle.fs_script.specs.Vocabulary.{Job, effect_of, has_any, marks_in, put_lines}
 use Rattle.fs_script.specs.declared.line.Op.TheVariants as ops
 use Rattle.piece_table.specs.HeldSpans.{PutsAll}
+use Rattle.client_files.specs.Noted.{later_of}
 use Rattle.client_files.specs.declared.noted.Noted.{Noted}
 use Rattle.client_map.specs.Kept.{pending_end}
-use Rattle.owner_book.specs.Calls.{version}
+use Rattle.owner_book.specs.Calls.{attr, version}
 use Rattle.owner_book.specs.Commits.{AreDead, HasHolds}
 use Rattle.owner_book.specs.Laminations.{frozen, with_lamination}
 use Rattle.owner_book.specs.Kept.{BookFile, BookPath, held_in}
 use Rattle.core_machine.specs.BookFiles.{IsFile, marks_of_file}
-use Rattle.core_machine.specs.Event.{answered, committed_for_all}
-use Rattle.core_machine.specs.Follows.{kept_event}
+use Rattle.core_machine.specs.Event.{answered, committed_as}
+use Rattle.core_machine.specs.Follows.{EndsLine, EventSound, kept_event}
 use Rattle.core_machine.specs.Kept.{AreSound, OwnedPath, file_marks, owned_of, pending_lines}
 use Rattle.core_machine.specs.PendingWrites.{IsPushOf}
 use Rattle.core_machine.specs.PlainHolds.{AreHeldPlain}
@@ -22,7 +25,9 @@ use Rattle.core_machine.specs.ClientPath.{ClientPath}
 use Rattle.core_machine.specs.declared.plain_hold.PlainHold.{PlainHold}
 use Rattle.core_machine.specs.declared.task.Task.TheVariants.{Idle}
 use Rattle.core_machine.proofs.Commits.{gone-put, holds-put}
-use Rattle.core_machine.proofs.EmptiedLines.{CommitsLine}
+use Rattle.core_machine.proofs.EmptiedLines.{CommitsLine, ends-quietly}
+use Rattle.core_machine.proofs.EventsFollow.{ends-answered, notes-told, told-file}
+use Rattle.core_machine.proofs.LetGo.{idle_kept}
 use Rattle.core_machine.proofs.PushedPending.{file-pushed, file_with, marks-pushed, puts-pushed, unfrozen-is, with_pushed}
 
 -- ---- the events
@@ -54,7 +59,7 @@ module _ (s : Job) (n : ℕ) (x y : BookPath PlainHold) (told : Noted) (k : Clie
   file_then : y.file ≡ Some (frozen (with_pushed push f))
   file_then = ap (λ (q : BookPath PlainHold). q.file) changed ∙ ap (option_map (λ (g : BookFile PlainHold). frozen (with_pushed push g))) file
 
-  event : (free : ℕ) → kept_event s (owned_of x told) k free Idle ops.Laminate ≡ committed_for_all (length x.journal + 1)
+  event : (free : ℕ) → kept_event s (owned_of x told) k free Idle ops.Laminate ≡ committed_as (length x.journal + 1)
   event free = rw (opened, file, unfrozen) refl
 
   marks : file_marks y.file ≡ effect_of s (marks_in s) ops.Laminate (pending_lines k) (file_marks x.file)
@@ -67,7 +72,7 @@ module _ (s : Job) (n : ℕ) (x y : BookPath PlainHold) (told : Noted) (k : Clie
       (subst (λ o. PutsAll k.pending.held f.held (held_in o)) (sym file_then)
       (puts-pushed s k.pending push f sound.pending end is_file is_push))
 
-  pub commits-laminated : CommitsLine s n ops.Laminate x y told k dead done_at
+  pub commits-laminated : CommitsLine s n ops.Laminate x y told k dead
   commits-laminated = record {
     event = event;
     lines = λ v. refl;

@@ -4,13 +4,11 @@ pub mod Events
 pub mod Logs
 pub mod Journals
 pub mod Phases
-pub mod Sends
 pub mod Turns
 pub mod Census
 pub mod Measured
 pub mod After
 pub mod UnderWay
-pub mod Reaching
 pub mod Slots
 pub mod LegalSteps
 pub mod EventsLeft

@@ -1,6 +1,6 @@
 -- No event of an operation that is never committed commits its line.
 use Rattle.std.specs.Prelude.{nat_lt}
-use Rattle.fs_types.proofs.Common.{◌≡◌, ◌+◌, ◌∷◌, [], ℕ, Bool, Option, Some, None, false, if◌then◌else◌, length, refl}
+use Rattle.fs_types.proofs.Common.{◌≡◌, ◌+◌, ◌∷◌, [], ℕ, Bool, Option, Some, None, true, false, if◌then◌else◌, length, refl}
 use Rattle.fs_types.proofs.Common.{cond_both, true≢false}
 use Rattle.fs_types.specs.declared.answer.Answer.TheVariants as answers
 use Rattle.fs_script.specs.Vocabulary.{File, Job, LONGEST_FILE, Mark, Range, Write, commits, marks_in, parts_of, range_of, runs, view_of}

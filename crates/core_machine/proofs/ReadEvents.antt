@@ -17,8 +17,7 @@ use Rattle.core_machine.specs.Kept.{OwnedPath}
 use Rattle.core_machine.specs.declared.plain_hold.PlainHold.{PlainHold}
 use Rattle.core_machine.specs.declared.task.ReadTask.{ReadTask}
 use Rattle.core_machine.specs.declared.task.Task.{Task}
-use Rattle.core_machine.specs.Sends.{broadcast_of}
-use Rattle.core_machine.specs.declared.task.Task.TheVariants.{Idle, Read, Send}
+use Rattle.core_machine.specs.declared.task.Task.TheVariants.{Idle, Read}
 use Rattle.core_machine.specs.Doing.{Reading, reading}
 use Rattle.core_machine.specs.Event.{Event, PathNow, answered, goes_on_reading}
 use Rattle.core_machine.specs.Events.Read.{lookup_over, shows}
@@ -30,7 +29,7 @@ use Rattle.core_machine.specs.Logs.{AreHeldSlots, HoldsStand, stored_part}
 use Rattle.core_machine.specs.Pins.{HaveSlots, no_count, pin_count}
 use Rattle.core_machine.specs.Reads.{BeginsRead, marks_seen}
 use Rattle.core_machine.specs.Settling.{Settles}
-use Rattle.core_machine.specs.Task.{IsReadTask, doing_of, marks_of_task, reading_of, sends_of}
+use Rattle.core_machine.specs.Task.{IsReadTask, doing_of, marks_of_task, reading_of}
 use Rattle.core_machine.proofs.EventsFollow.{Notes, follows-noted, notes-later, notes-none, notes-now}
 use Rattle.core_machine.proofs.FetchedBytes.{HasBytes-whole}
 use Rattle.core_machine.proofs.SettledSlots.{Settles-agree, Settles-more, Settles-same}
@@ -41,12 +40,6 @@ notes-shown : (x : OwnedPath) (k : ClientPath) (t : ReadTask) (bytes : List ℕ)
 notes-shown x k t bytes =
     notes-later x k (Read t) (shows t.version bytes) (let m : Noted = record { version = t.version; attr = t.attr } in m) refl
     (λ seen told looked. looked) (λ at knows looked. looked)
-
--- who is in the midst of a read has no server left to tell
-pub reads-quietly : (d : Reading) (u : Task) → reading d ≡ doing_of u → sends_of u ≡ None
-reads-quietly d Idle is = refl
-reads-quietly d (Read t) is = refl
-reads-quietly d (Send t) is = absurd cc
 
 -- ---- an event of a read, by what the machine's event is
 
@@ -66,7 +59,6 @@ module _ (s : Job) (n r off len : ℕ) (own : Bool) (x : OwnedPath) (k : ClientP
         is = refl;
         answer = ap (λ (e : Event). e.answer) is;
         doing = ap (λ (e : Event). e.doing) is;
-        sends = ap (λ (e : Event). broadcast_of s n e.sends) is;
         attr = tt;
         kept = follows-noted s n (ops.Read off len own) t event x k (record k { noted = m }) a (ap (λ (e : Event). e.commits) is) notes
             refl refl (λ q there. there);
@@ -86,7 +78,6 @@ module _ (s : Job) (n r off len : ℕ) (own : Bool) (x : OwnedPath) (k : ClientP
         is = refl;
         answer = ap (λ (e : Event). e.answer) is;
         doing = ap (λ (e : Event). e.doing) is ∙ doing;
-        sends = ap (λ (e : Event). broadcast_of s n e.sends) is ∙ sym (reads-quietly d t' doing);
         attr = has;
         kept = record {
           commits = ap (λ (e : Event). e.commits) is;

@@ -1,6 +1,5 @@
 -- The code is the machine: what is kept stands for the moment, before the first event and after each.
 pub mod NextAnswers
-pub mod DoneLines
 pub mod Owners
 pub mod Clients
 pub mod JournalsKept
@@ -27,6 +26,5 @@ pub mod Reads
 pub mod BooksRead
 pub mod Counts
 pub mod Goes
-pub mod Reaching
 pub mod Told
 pub mod LineEvents

@@ -51,7 +51,7 @@ module _ (s : Job) (x : OwnedPath) (k : ClientPath) where
   pub ends-empty : (n r : ℕ) (logs : List Log) → EventSound s n ops.Sync r (idle_kept x k logs) → (told : ℕ × Attr) (l : ClientPath)
       → told ≡ (version x.path, attr x.path) → told.1.exists ≡ true → k.is_open ≡ true → pending_lines k ≡ []
       → l ≡ record k { noted = later_of k.noted (record { version = told.0; attr = told.1 }) }
-      → EndsLine s n ops.Sync x k logs x l logs None (answers.Done told.0)
+      → EndsLine s n ops.Sync x k logs x l logs (answers.Done told.0)
   ends-empty n r logs before told l same there opened none is =
       let f = told-file told x.path same there in
       ends-quietly s n ops.Sync r x k logs before x l (answers.Done told.0)
@@ -88,7 +88,7 @@ module _ (s : Job) (n : ℕ) (x y : BookPath PlainHold) (told : Noted) (k : Clie
       (subst (λ o. PutsAll k.pending.held f.held (held_in o)) (sym file_then)
       (puts-pushed s k.pending push f sound.pending end is_file is_push))
 
-  pub commits-synced : CommitsLine s n ops.Sync x y told k dead (λ _. None)
+  pub commits-synced : CommitsLine s n ops.Sync x y told k dead
   commits-synced = record {
     event = event;
     lines = λ v. refl;

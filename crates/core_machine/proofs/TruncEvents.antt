@@ -80,7 +80,7 @@ module _ (s : Job) (n size : ℕ) (x y : BookPath PlainHold) (told : Noted) (k :
   cuts : Cuts size (with_pushed push f).held (held_in y.file)
   cuts = subst (λ o. Cuts size (with_pushed push f).held (held_in o)) (sym file_then) (record { fragments = refl; holds = λ q. refl })
 
-  pub commits-truncated : CommitsLine s n (ops.Trunc size) x y told k dead (λ _. None)
+  pub commits-truncated : CommitsLine s n (ops.Trunc size) x y told k dead
   commits-truncated = record {
     event = event;
     lines = λ v. refl;

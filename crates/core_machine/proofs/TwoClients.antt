@@ -40,7 +40,7 @@ turn_of r = record { client = r }
 
 -- a client that has done one line
 abbrev after_one : Client
-after_one = record { place = 1; doing = nothing; sends = None }
+after_one = record { place = 1; doing = nothing }
 
 -- client 1 has a line, whose phase hasn't begun
 first_phase : ready start ≡ 0 ∷ []

@@ -2,7 +2,7 @@
 use Rattle.fs_types.proofs.Common.{◌≡◌, ℕ, ◌+◌, ◌++◌, true, false, List, length, Some, None, IfSome, if◌then◌else◌}
 use Rattle.fs_types.proofs.Common.{nil_from_length, refl, sym, ap, ◌∙◌, subst}
 use Rattle.fs_types.specs.declared.answer.Answer.TheVariants as answers
-use Rattle.fs_script.specs.Vocabulary.{Job, done_at, effect_of, marks_in}
+use Rattle.fs_script.specs.Vocabulary.{Job, effect_of, marks_in}
 use Rattle.fs_script.specs.declared.line.Op.TheVariants as ops
 use Rattle.piece_table.specs.HeldSpans.{AreGone, is_named}
 use Rattle.client_files.specs.declared.noted.Noted.{Noted}
@@ -10,7 +10,7 @@ use Rattle.owner_book.specs.Calls.{version, without_file}
 use Rattle.owner_book.specs.Commits.{AreDead}
 use Rattle.owner_book.specs.Kept.{BookFile, BookPath, held_in}
 use Rattle.core_machine.specs.BookFiles.{IsFile}
-use Rattle.core_machine.specs.Event.{answered, committed_for_all}
+use Rattle.core_machine.specs.Event.{answered, committed_as}
 use Rattle.core_machine.specs.Follows.{kept_event}
 use Rattle.core_machine.specs.Kept.{AreSound, OwnedPath, file_hold, file_marks, owned_of, pending_lines}
 use Rattle.core_machine.specs.PendingWrites.{IsNonePending}
@@ -40,10 +40,10 @@ module _ (s : Job) (n : ℕ) (x y : BookPath PlainHold) (told : Noted) (k : Clie
   none_then : y.file ≡ None
   none_then = ap (λ (q : BookPath PlainHold). q.file) changed
 
-  event : (free : ℕ) → kept_event s (owned_of x told) k free Idle ops.Unlink ≡ committed_for_all (length x.journal + 1)
+  event : (free : ℕ) → kept_event s (owned_of x told) k free Idle ops.Unlink ≡ committed_as (length x.journal + 1)
   event free = rw (opened, file) refl
 
-  pub commits-unlinked : CommitsLine s n ops.Unlink x y told k after done_at
+  pub commits-unlinked : CommitsLine s n ops.Unlink x y told k after
   commits-unlinked = record {
     event = event;
     lines = λ v. refl;

@@ -1,5 +1,5 @@
 -- A write's events: where too few slots are free, and where it fills some; and what is kept follows it.
-use Rattle.fs_types.proofs.Common.{None, ◌≡◌, ℕ, ◌+◌, ◌++◌, ◌∷◌, [], ◌==◌, ◌||◌, ◌&&◌, ◌<◌, ◌≤◌, Bool, true, false, List, length, Some}
+use Rattle.fs_types.proofs.Common.{◌≡◌, ℕ, ◌+◌, ◌++◌, ◌∷◌, [], ◌==◌, ◌||◌, ◌&&◌, ◌<◌, ◌≤◌, Bool, true, false, List, length, Some}
 use Rattle.fs_types.proofs.Common.{is_some, if◌then◌else◌, cond, get_or, slice_get}
 use Rattle.fs_types.proofs.Common.{refl, sym, ap, ◌∙◌, subst, arith, nat_lt, lt-ltb, le-ltb, ne_eqb, slice_get-get_or}
 use Rattle.std.proofs.lemmas.Grind.{div_ceil_times}
@@ -132,13 +132,12 @@ module _ (s : Job) (n : ℕ) (x : OwnedPath) (k : ClientPath) (off : ℕ) (text 
       rw (opened, exists, unfrozen, short, less, needs) refl
 
   pub ends-refused : (wanted unheld : ℕ) → wanted ≡ need s n → unheld ≡ free → free < need s n
-      → Ends event false None (answers.NoSpace wanted unheld)
+      → Ends event false (answers.NoSpace wanted unheld)
   ends-refused wanted unheld same_need same_free few =
       let is : event ≡ answered (answers.NoSpace wanted unheld) =
       refused-event few ∙ ap (λ m. answered (answers.NoSpace m free)) (sym same_need)
       ∙ ap (λ m. answered (answers.NoSpace wanted m)) (sym same_free) in
-      subst (λ e. Ends e false None (answers.NoSpace wanted unheld)) (sym is)
-      (record { answer = refl; doing = refl; filling = refl; sending = refl })
+      subst (λ e. Ends e false (answers.NoSpace wanted unheld)) (sym is) (record { answer = refl; doing = refl; filling = refl })
 
   pub follows-refused : (wanted unheld : ℕ) → free < need s n
       → Follows s n (ops.Write off text) Idle event x k x k (answers.NoSpace wanted unheld)
@@ -150,9 +149,8 @@ module _ (s : Job) (n : ℕ) (x : OwnedPath) (k : ClientPath) (off : ℕ) (text 
     is_event : event ≡ wrote_into slots
     is_event = accepted-event enough ∙ ap wrote_into (sym same)
 
-    pub ends-accepted : Ends event true None (answers.Wrote slots)
-    ends-accepted = subst (λ e. Ends e true None (answers.Wrote slots)) (sym is_event)
-        (record { answer = refl; doing = refl; filling = refl; sending = refl })
+    pub ends-accepted : Ends event true (answers.Wrote slots)
+    ends-accepted = subst (λ e. Ends e true (answers.Wrote slots)) (sym is_event) (record { answer = refl; doing = refl; filling = refl })
 
     pub follows-accepted : (l : ClientPath) → l.is_open ≡ k.is_open → l.noted ≡ k.noted
         → pending_lines l ≡ after_answer (ops.Write off text) (answers.Wrote slots) n (pending_lines k)

@@ -8,13 +8,6 @@ pub record Reading : Type 0 where
   pub marks : List (Option Mark)
   pub fetched : ℕ
 
--- A line that its owner committed and that the other servers are told of, one after the other: the line, the version that it made,
--- and how many servers are left.
-pub record Broadcast : Type 0 where
-  pub line : ℕ
-  pub version : ℕ
-  pub left : ℕ
-
 pub data Doing : Type 0 where
   nothing : Doing
   reading : Reading → Doing

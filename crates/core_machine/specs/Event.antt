@@ -6,38 +6,28 @@ use Rattle.core_machine.specs.Doing.{Doing, Reading, nothing, reading}
 use Rattle.fs_types.specs.declared.answer.Answer.TheVariants as answers
 
 -- an answer to the line, if it has come to its end; whether the owner commits the line; whether the line's pieces go into
--- slots of its client's log; what its client does from then on; and the version that the other servers are told of, if they are told
--- of one
+-- slots of its client's log; and what its client does from then on
 pub record Event : Type 0 where
   pub answer : Option Answer
   pub commits : Bool
   pub fills : Bool
   pub doing : Doing
-  pub sends : Option ℕ
 
 -- the line ends with an answer that commits nothing
 abbrev pub answered : Answer → Event
-answered a = record { answer = Some a; commits = false; fills = false; doing = nothing; sends = None }
+answered a = record { answer = Some a; commits = false; fills = false; doing = nothing }
 
--- the line ends as version v of its path, and the other servers are told of this version, if they are told of one
-abbrev pub committed_with : Option ℕ → ℕ → Event
-committed_with told v = record { answer = Some (answers.Done v); commits = true; fills = false; doing = nothing; sends = told }
-
--- the line ends as version v of its path, and no other server is told
+-- the line ends as version v of its path
 abbrev pub committed_as : ℕ → Event
-committed_as v = committed_with None v
-
--- the line ends as version v of its path, of which the other servers are told
-abbrev pub committed_for_all : ℕ → Event
-committed_for_all v = committed_with (Some v) v
+committed_as v = record { answer = Some (answers.Done v); commits = true; fills = false; doing = nothing }
 
 -- the line ends with its pieces in so many slots
 abbrev pub wrote_into : ℕ → Event
-wrote_into slots = record { answer = Some (answers.Wrote slots); commits = false; fills = true; doing = nothing; sends = None }
+wrote_into slots = record { answer = Some (answers.Wrote slots); commits = false; fills = true; doing = nothing }
 
 -- the line goes on with a read under way
 abbrev pub goes_on_reading : Reading → Event
-goes_on_reading d = record { answer = None; commits = false; fills = false; doing = reading d; sends = None }
+goes_on_reading d = record { answer = None; commits = false; fills = false; doing = reading d }
 
 -- what a client knows of a file: its attributes
 abbrev pub known_of : {X : Type 0} → File X → Attr

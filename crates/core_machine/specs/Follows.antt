@@ -14,7 +14,7 @@ use Rattle.core_machine.specs.declared.plain_hold.PlainHold.{PlainHold}
 use Rattle.core_machine.specs.ClientPath.{ChangesOwn, ClientPath, lines_then, own_of}
 use Rattle.core_machine.specs.declared.client.Client.{Client}
 use Rattle.core_machine.specs.declared.task.Task.{Task}
-use Rattle.core_machine.specs.declared.task.Task.TheVariants.{Idle, Read, Send}
+use Rattle.core_machine.specs.declared.task.Task.TheVariants.{Idle, Read}
 use Rattle.core_machine.specs.Books.{ChangesPath, path_at}
 use Rattle.core_machine.specs.Doing.{nothing}
 use Rattle.core_machine.specs.Event.{Event, known_of}
@@ -24,8 +24,7 @@ use Rattle.core_machine.specs.Kept.{AreSound, OwnedPath, file_marks, file_hold, 
 use Rattle.core_machine.specs.Logs.{AreFreeSlots, AreHeldSlots, AreInOneSlot, AreInMemory, HoldsStand, pieces_of, slot_in}
 use Rattle.core_machine.specs.HoldsKept.{holds_kept, keeps}
 use Rattle.core_machine.specs.Settling.{LogsFollow}
-use Rattle.core_machine.specs.Sends.{broadcast_of}
-use Rattle.core_machine.specs.Task.{IsTask, doing_of, sends_of, task_hold}
+use Rattle.core_machine.specs.Task.{IsTask, doing_of, task_hold}
 
 -- the event of an operation over what is kept, where so many slots of the client's log are free
 abbrev pub kept_event : Job → OwnedPath → ClientPath → ℕ → Task → Op → Event
@@ -35,25 +34,21 @@ kept_event s x k free t op = event_of s (kept_now s x k free) (doing_of t) op
 abbrev pub LookedUpWithin : Task → ℕ → Type 0
 LookedUpWithin Idle versions = Unit {0}
 LookedUpWithin (Read t) versions = t.version ≤ versions
-LookedUpWithin (Send t) versions = Unit {0}
 
 -- and the attributes are those of the file at it, as `at` says of the versions
 abbrev pub KnowsLookedUp : (ℕ → Attr) → Task → Type 0
 KnowsLookedUp at Idle = Unit {0}
 KnowsLookedUp at (Read t) = t.attr ≡ at t.version
-KnowsLookedUp at (Send t) = Unit {0}
 
 -- the attributes that a read under way looked up, or those that one which begins finds
 abbrev pub attr_seen : OwnedPath → Task → Attr
 attr_seen x Idle = attr x.path
 attr_seen x (Read t) = t.attr
-attr_seen x (Send t) = attr x.path
 
 -- a read under way has these attributes
 abbrev pub HasAttr : Attr → Task → Type 0
 HasAttr a Idle = Unit {0}
 HasAttr a (Read t) = t.attr ≡ a
-HasAttr a (Send t) = Unit {0}
 
 -- what was noted of each version, and the file now, are as `at` says of the versions
 pub record Knows (at : ℕ → Attr) (x : OwnedPath) (k : ClientPath) : Type 0 where
@@ -61,13 +56,11 @@ pub record Knows (at : ℕ → Attr) (x : OwnedPath) (k : ClientPath) : Type 0 w
   pub board : x.told.attr ≡ at x.told.version
   pub now : known_of (file_marks x.path.file) ≡ at (length x.path.journal)
 
--- an event brings its line to its end with this answer, puts the line's pieces into slots or doesn't, and leaves its client with this
--- version to tell the other servers of, if with one
-pub record Ends (e : Event) (fills : Bool) (sends : Option ℕ) (a : Answer) : Type 0 where
+-- an event brings its line to its end with this answer, and puts the line's pieces into slots or doesn't
+pub record Ends (e : Event) (fills : Bool) (a : Answer) : Type 0 where
   pub answer : e.answer ≡ Some a
   pub doing : e.doing ≡ nothing
   pub filling : e.fills ≡ fills
-  pub sending : e.sends ≡ sends
 
 -- the same holds are kept of a path and by a client on it
 pub record KeepsHolds (x : OwnedPath) (k : ClientPath) (y : OwnedPath) (l : ClientPath) : Type 0 where
@@ -132,17 +125,16 @@ pub record LogsSettle (s : Job) (n r : ℕ) (fills : Bool) (old new : EventKept)
 -- Line n, the operation op of a client in the midst of nothing, came to its end with this answer, put nothing into slots and let no
 -- hold go: what is kept after it follows the event, and is sound.
 pub record EndsQuietly (s : Job) (n : ℕ) (op : Op) (x : OwnedPath) (k : ClientPath) (y : OwnedPath) (l : ClientPath) (a : Answer) : Type 0 where
-  pub ends : (free : ℕ) → Ends (kept_event s x k free Idle op) false None a
+  pub ends : (free : ℕ) → Ends (kept_event s x k free Idle op) false a
   pub follows : (free : ℕ) → Follows s n op Idle (kept_event s x k free Idle op) x k y l a
   pub holds : KeepsHolds x k y l
   pub sound : AreSound s y l
 
--- Line n, the operation op of a client in the midst of nothing, came to its end with this answer, put nothing into slots, and leaves
--- its client with this version to tell the other servers of, if with one: what is kept after it and the logs follow the event, and what
--- is kept is sound.
+-- Line n, the operation op of a client in the midst of nothing, came to its end with this answer and put nothing into slots: what is
+-- kept after it and the logs follow the event, and what is kept is sound.
 pub record EndsLine (s : Job) (n : ℕ) (op : Op) (x : OwnedPath) (k : ClientPath) (was : List Log) (y : OwnedPath) (l : ClientPath)
-    (now : List Log) (sends : Option ℕ) (a : Answer) : Type 0 where
-  pub ends : (free : ℕ) → Ends (kept_event s x k free Idle op) false sends a
+    (now : List Log) (a : Answer) : Type 0 where
+  pub ends : (free : ℕ) → Ends (kept_event s x k free Idle op) false a
   pub follows : (free : ℕ) → Follows s n op Idle (kept_event s x k free Idle op) x k y l a
   pub logs : (r : ℕ) → LogsSettle s n r false
       (record { owned = x; client = k; task = Idle; logs = was }) (record { owned = y; client = l; task = Idle; logs = now })
@@ -154,7 +146,6 @@ pub record EventFollows (s : Job) (n : ℕ) (op : Op) (r : ℕ) (old new : Event
   pub is : event ≡ kept_event s old.owned old.client (free_in old.logs r) old.task op
   pub answer : event.answer ≡ a
   pub doing : event.doing ≡ doing_of new.task
-  pub sends : broadcast_of s n event.sends ≡ sends_of new.task
   pub attr : HasAttr (attr_seen old.owned old.task) new.task
   pub kept : FollowsBy s n op old.task event old.owned old.client new.owned new.client a
   pub settles : LogsSettle s n r event.fills old new
@@ -163,7 +154,6 @@ pub record EventFollows (s : Job) (n : ℕ) (op : Op) (r : ℕ) (old new : Event
 abbrev pub MayBeIn : Op → Task → Type 0
 MayBeIn op Idle = Unit {0}
 MayBeIn op (Read t) = IsSome (asked op)
-MayBeIn op (Send t) = Unit {0}
 
 -- what is kept for a path and a client, and what the client is in the midst of, is whole
 pub record IsWhole (s : Job) (op : Op) (kept : EventKept) : Type 0 where
@@ -171,11 +161,9 @@ pub record IsWhole (s : Job) (op : Op) (kept : EventKept) : Type 0 where
   pub task : IsTask s kept.task
   pub midst : MayBeIn op kept.task
 
--- before an event of a read: all is whole, no server is left to be told of a line, each hold is of a slot that has its piece, and the
--- logs are in memory
+-- before an event of a read: all is whole, each hold is of a slot that has its piece, and the logs are in memory
 pub record ReadSound (s : Job) (op : Op) (kept : EventKept) : Type 0 where
   pub whole : IsWhole s op kept
-  pub quiet : sends_of kept.task ≡ None
   pub stand : KeptStand s kept.logs kept.owned kept.client kept.task
   pub memory : AreInMemory s kept.logs
 
@@ -192,8 +180,6 @@ pub record EventSound (s : Job) (n : ℕ) (op : Op) (r : ℕ) (kept : EventKept)
   pub free : AreFreeSlots kept.logs
   pub few : (q i : ℕ) → (slot_in kept.logs q i).count < 2 ^ 64 - 1
   pub memory : AreInMemory s kept.logs
-  -- no server is left to be told of the client's last line
-  pub quiet : sends_of kept.task ≡ None
   pub log : r < length kept.logs
   pub rank : (log : Log) → slice_get kept.logs r ≡ Some log → log.rank ≡ r
 

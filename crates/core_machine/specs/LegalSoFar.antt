@@ -1,5 +1,5 @@
 -- What holds at every moment of a simulated run, and which moments a run reaches.
-use Rattle.std.specs.Prelude.{◌≡◌, ℕ, ◌<◌, true, List, [], ◌∷◌, length, map, Some, IfSome, IsSome, is_some, nat_lt, slice_get, Contains}
+use Rattle.std.specs.Prelude.{◌≡◌, ℕ, ◌<◌, true, List, [], ◌∷◌, length, map, Some, IsSome, is_some, nat_lt, slice_get, Contains}
 use Rattle.fs_script.specs.Vocabulary.{Fits, IsRising, Job, Piece, op_at, phase, program, Answering, IsLegalSoFar, ArePaths, was_accepted}
 use Rattle.fs_script.specs.declared.line.OpLine.{OpLine}
 use Rattle.core_machine.specs.Doing.{Doing, Reading, nothing, reading}
@@ -38,19 +38,17 @@ MayGoOn told m r (reading d) = IsUnderWay told m r d
 pub record IsLegalMoment (told : List ℕ) (m : Moment) : Type 0 where
   pub job : CanRun m.job
   pub clients : length m.clients ≡ m.job.shape.clients
-  pub places : (r : ℕ) → r < m.job.shape.clients → IsAnsweredUpTo m.job (answering m) r (client_of m r).place
+  pub places : (r : ℕ) → r < m.job.shape.clients → IsAnsweredUpTo m.job (printed m) r (client_of m r).place
   -- nothing but operations has an answer
-  pub operations : (n : ℕ) → IsSome (answering m n) → IsSome (op_at m.job n)
-  -- what is of an earlier phase than a line with an answer was printed
-  pub phases : (k n : ℕ) → IsSome (answering m k) → IsSome (op_at m.job n) → phase m.job n < phase m.job k → IsSome (printed m n)
+  pub operations : (n : ℕ) → IsSome (printed m n) → IsSome (op_at m.job n)
+  -- what is of an earlier phase than a line with an answer has an answer
+  pub phases : (k n : ℕ) → IsSome (printed m k) → IsSome (op_at m.job n) → phase m.job n < phase m.job k → IsSome (printed m n)
   pub rising : IsRising m.answers
   pub paths : ArePaths m.job (map (λ j. j.0) m.journals)
   -- what was answered so far is legal
   pub legal : IsLegalSoFar told m.job (answering m) (journal m)
   -- each client that is in the midst of a line may go on
   pub under_way : (r : ℕ) → r < m.job.shape.clients → MayGoOn told m r (client_of m r).doing
-  -- where servers are told of a client's last line, some are left
-  pub sends : (r : ℕ) → r < m.job.shape.clients → IfSome (client_of m r).sends (λ b. 0 < b.left)
   -- the logs hold what is held, and of accepted writes alone
   pub logs : length m.logs ≡ m.job.shape.clients
   pub slots : (r : ℕ) → r < m.job.shape.clients → HoldsExactly m r

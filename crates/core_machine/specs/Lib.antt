@@ -5,7 +5,6 @@ pub mod ReadRuns
 pub mod PathTable
 pub mod Gfids
 pub mod Doing
-pub mod Sends
 pub mod Moment
 pub mod EventsLeft
 pub mod Slots

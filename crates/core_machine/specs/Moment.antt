@@ -1,27 +1,25 @@
 -- Moments of a simulated run: how far each client has come, the answers and the journals so far, and what is in the logs.
 use Rattle.std.specs.Prelude.{◌≡◌, ℕ, ◌+◌, Bool, false, ◌||◌, nat_le, List, [], ◌∷◌, ◌++◌, length, map, filter, is_some, replicate}
 use Rattle.std.specs.Prelude.{Option, Some, None, slice_index_or, if◌then◌else◌, slice_get, bytes_eq}
-use Rattle.std.specs.List.{range_with_len, list_all, list_any, AllByRecursion}
+use Rattle.std.specs.List.{range_with_len, list_all, AllByRecursion}
 use Rattle.fs_script.specs.Vocabulary.{Answer, answer_at, File, Job, Mark, Piece, op_lines, phase, program, Answering, state, marks_at}
 use Rattle.fs_script.specs.Vocabulary.{journal_of, ArePaths}
-use Rattle.core_machine.specs.Doing.{Broadcast, Doing, nothing}
-use Rattle.core_machine.specs.Sends.{is_of_line}
+use Rattle.core_machine.specs.Doing.{Doing, nothing}
 
--- how many lines of its program a client has done, what it is in the midst of, and the line that the other servers are still told of
+-- how many lines of its program a client has done, and what it is in the midst of
 pub record Client : Type 0 where
   pub place : ℕ
   pub doing : Doing
-  pub sends : Option Broadcast
 
 -- a client before its first line
 abbrev pub fresh_client : Client
-fresh_client = record { place = 0; doing = nothing; sends = None }
+fresh_client = record { place = 0; doing = nothing }
 
 pub record Moment : Type 0 where
   pub job : Job
   -- one for each client, by rank
   pub clients : List Client
-  -- the answers that count
+  -- the answers that were printed
   pub answers : List (ℕ × Answer)
   -- for each path that the script names, in byte order
   pub journals : List (List ℕ × List ℕ)
@@ -30,18 +28,13 @@ pub record Moment : Type 0 where
   -- want of memory ended the run
   pub spent : Bool
 
--- the answers that count, by line: pending writes, fronts and states look at these
-abbrev pub answering : Moment → Answering
-answering m = answer_at m.answers
-
--- whether servers are still told of line n
-abbrev pub is_told : Moment → ℕ → Bool
-is_told m n = list_any (λ c. is_of_line n c.sends) m.clients
-
--- the answers that were printed, by line: the end of a phase and the report look at these. A line is printed once all servers were
--- told of it.
+-- the answers that were printed, by line: the end of a phase and the report look at these
 abbrev pub printed : Moment → Answering
-printed m n = if is_told m n then None else answering m n
+printed m = answer_at m.answers
+
+-- the answers that count, by line: pending writes, fronts and states look at these. No line counts before it is printed.
+abbrev pub answering : Moment → Answering
+answering m = printed m
 
 -- the journal of a path so far
 abbrev pub journal : Moment → List ℕ → List ℕ
@@ -62,7 +55,7 @@ client_of m r = slice_index_or m.clients r fresh_client
 abbrev pub log_of : Moment → ℕ → List (Option Piece)
 log_of m r = slice_index_or m.logs r []
 
--- the line of its program that a client does now, or does next; one that servers are still told of was done
+-- the line of its program that a client does now, or does next
 abbrev pub next_line : Moment → ℕ → Option ℕ
 next_line m r = slice_get (program m.job r) (client_of m r).place
 
@@ -75,13 +68,9 @@ abbrev pub may_come : Moment → Option ℕ → Bool
 may_come m None = false
 may_come m (Some n) = has_begun m n
 
--- whether a client has an event left in a phase that has begun: a server is left to be told of its last line, or its next line may come
-abbrev pub is_ready : Moment → ℕ → Bool
-is_ready m r = is_some (client_of m r).sends || may_come m (next_line m r)
-
--- the clients that have, ascending; none once memory ran out
+-- the clients that have an event left in a phase that has begun, ascending; none once memory ran out
 abbrev pub ready : Moment → List ℕ
-ready m = if m.spent then [] else filter (is_ready m) (range_with_len 0 m.job.shape.clients)
+ready m = if m.spent then [] else filter (λ r. may_come m (next_line m r)) (range_with_len 0 m.job.shape.clients)
 
 -- the journals with a line at the end of one path's
 abbrev pub with_entry : List ℕ → ℕ → List (List ℕ × List ℕ) → List (List ℕ × List ℕ)

@@ -1,13 +1,13 @@
 -- The laws of simulated runs: what a run reports when no client has an event left is legal, each log holds at every moment exactly
 -- what is held, a write is refused for want of slots exactly where too few are left, and each answer was given by an event of
 -- the run.
-use Rattle.std.specs.Prelude.{◌≡◌, ◌↔◌, ℕ, ◌+◌, ◌≤◌, ◌<◌, true, false, List, [], ◌∷◌, ◌++◌, length, Some, None, Contains}
+use Rattle.std.specs.Prelude.{◌≡◌, ◌↔◌, ℕ, ◌+◌, ◌≤◌, ◌<◌, true, false, List, [], ◌∷◌, ◌++◌, length, Some, Contains}
 use Rattle.fs_types.specs.declared.answer.Answer.TheVariants as answers
 use Rattle.fs_script.specs.Vocabulary.{Answer, Job, IsLegal, LONGEST_FILE, Write, brought, live_or_pending, need, op_at}
 use Rattle.fs_script.specs.declared.line.Op.{Op}
 use Rattle.fs_script.specs.declared.line.OpLine.{OpLine}
 use Rattle.core_machine.specs.Event.{PathNow}
-use Rattle.core_machine.specs.Moment.{Moment, IsFirst, answering, client_of, journal, log_of, next_line, ready}
+use Rattle.core_machine.specs.Moment.{Moment, IsFirst, answering, journal, log_of, next_line, printed, ready}
 use Rattle.core_machine.specs.MomentReport.{report_of}
 use Rattle.core_machine.specs.Slots.{HoldsExactly, census, empty_slots, held_pieces}
 use Rattle.core_machine.specs.Step.{Turn, event_at, path_now}
@@ -71,7 +71,7 @@ NoSpaceIsExact = (s : Job) (m n : Moment) (turns : List Turn) (k : ℕ) (o : OpL
 -- ---- answers
 
 -- in a run of s that begins at m, with these turns, a came as the answer to line k: at a moment of the run the line was its client's
--- next one, no server was left to be told of the one before, the next turn was the client's, and the event had this answer
+-- next one, the next turn was the client's, and the event had this answer
 pub record WasGiven (s : Job) (m : Moment) (turns : List Turn) (k : ℕ) (a : Answer) : Type 0 where
   pub before : List Turn
   pub after : List Turn
@@ -80,7 +80,6 @@ pub record WasGiven (s : Job) (m : Moment) (turns : List Turn) (k : ℕ) (a : An
   pub all : turns ≡ before ++ record { client = op.rank } ∷ after
   pub reaches : Reaches m before then
   pub waits : Contains (ready then) op.rank
-  pub quiet : (client_of then op.rank).sends ≡ None
   pub next : next_line then op.rank ≡ Some k
   pub is : op_at s k ≡ Some op
   pub gives : (event_at then k op).answer ≡ Some a
@@ -88,9 +87,9 @@ pub record WasGiven (s : Job) (m : Moment) (turns : List Turn) (k : ℕ) (a : An
 -- each answer that stands at a moment of a run came so
 abbrev pub AnswersWereGiven : Type 0
 AnswersWereGiven = (s : Job) (m n : Moment) (turns : List Turn) (k : ℕ) (a : Answer)
-    → IsFirst s m → Reaches m turns n → answering n k ≡ Some a → WasGiven s m turns k a
+    → IsFirst s m → Reaches m turns n → printed n k ≡ Some a → WasGiven s m turns k a
 
 -- and each that came so stands at the moment that the run comes to
 abbrev pub GivenAnswersStand : Type 0
 GivenAnswersStand = (s : Job) (m n : Moment) (turns : List Turn) (k : ℕ) (a : Answer)
-    → CanRun s → IsFirst s m → Reaches m turns n → WasGiven s m turns k a → answering n k ≡ Some a
+    → CanRun s → IsFirst s m → Reaches m turns n → WasGiven s m turns k a → printed n k ≡ Some a

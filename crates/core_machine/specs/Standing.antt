@@ -15,11 +15,11 @@ use Rattle.core_machine.specs.Follows.{KnowsLookedUp, LookedUpWithin, MayBeIn}
 use Rattle.core_machine.specs.Kept.{OwnedPath, PathState, file_hold, file_marks, pending_hold, pending_lines}
 use Rattle.core_machine.specs.LegalSoFar.{CanRun, IsAnsweredUpTo}
 use Rattle.core_machine.specs.Logs.{HoldsStand}
-use Rattle.core_machine.specs.MomentKept.{done_lines, moment_of}
+use Rattle.core_machine.specs.MomentKept.{moment_of}
 use Rattle.core_machine.specs.PendingWrites.{ArePending}
 use Rattle.core_machine.specs.Slots.{holds_of}
 use Rattle.core_machine.specs.StandingLogs.{StandsForLogs}
-use Rattle.core_machine.specs.Task.{IsTask, sends_of, task_hold}
+use Rattle.core_machine.specs.Task.{IsTask, task_hold}
 use Rattle.core_machine.specs.Turns.{Places, next_in}
 
 -- a piece of a line that was answered, of client r on path p
@@ -66,17 +66,12 @@ pub record HoldsOfPath (s : Job) (logs : List Log) (x : PathState) : Type 0 wher
   pub files : HoldsStand s logs (file_hold x.owned.path.file)
   pub pending : (r : ℕ) (k : ClientPath) → slice_get x.clients r ≡ Some k → HoldsStand s logs (pending_hold k)
 
--- what client r is in the midst of is whole, each of its holds is of a slot that has its piece, the line at its place is one that
--- has several events, and it is that line which servers are told of
+-- what client r is in the midst of is whole, each of its holds is of a slot that has its piece, and its next line is one that
+-- has several events
 pub record StandsForTask (s : Job) (turns : Places) (logs : List Log) (r : ℕ) (t : Task) : Type 0 where
   pub task : IsTask s t
   pub pins : HoldsStand s logs (task_hold t)
   pub line : (n : ℕ) (o : OpLine) → next_in turns r ≡ Some n → op_at s n ≡ Some o → MayBeIn o.op t
-  pub sends : IfSome (sends_of t) (λ b. next_in turns r ≡ Some b.line)
-
--- no server is left to be told of client r's last line
-abbrev pub SendsNothing : List Task → ℕ → Type 0
-SendsNothing tasks r = (t : Task) → slice_get tasks r ≡ Some t → sends_of t ≡ None
 
 -- the version that a client looked up is one of the journal of its next line's path, and the attributes are those of the file then
 pub record StandsForLookUp (s : Job) (A : Answering) (x : OwnedPath) (t : Task) : Type 0 where
@@ -96,9 +91,8 @@ pub record Holds (s : Job) (paths : List (List ℕ)) (states : List PathState) (
   pub tasked : length tasks ≡ s.shape.clients
   pub few : s.shape.clients < 2 ^ 32
   pub room : answers.lines ≡ length s.lines + 1
-  -- of each client's lines as many were answered as it has done, and no line of a later phase than the run's
-  pub upto : (r : ℕ) (t : Task) → slice_get tasks r ≡ Some t
-      → IsAnsweredUpTo s (answer_at answers.list) r (done_lines (slice_index turns.places r) t)
+  -- each client's lines were answered up to its place, and no line of a later phase than the run's
+  pub upto : (r : ℕ) → r < s.shape.clients → IsAnsweredUpTo s (answer_at answers.list) r (slice_index turns.places r)
   pub past : (m : ℕ) → IsSome (answer_at answers.list m) → phase s m ≤ turns.phase
   pub each : (i : ℕ) (p : List ℕ) (x : PathState) → slice_get paths i ≡ Some p → slice_get states i ≡ Some x
       → Stands s (answer_at answers.list) turns.phase p x

@@ -1,5 +1,4 @@
--- One step of a simulated run: the client whose turn it is has one event, by what the definitions say of the moment. Where a server is
--- left to be told of its last line, that is the event; else it is one of its next line.
+-- One step of a simulated run: the client whose turn it is has one event, by what the definitions say of the moment.
 use Rattle.std.specs.Prelude.{ℕ, ◌+◌, false, List, length, is_some, Option, Some, None, slice_set, if◌then◌else◌}
 use Rattle.fs_types.specs.declared.answer.Answer.{Answer}
 use Rattle.fs_types.specs.AnswerList.{put_answer}
@@ -14,8 +13,7 @@ use Rattle.fs_script.specs.Payload.{write_of}
 use Rattle.fs_script.specs.Pending.{Answering, pending}
 use Rattle.fs_script.specs.Effect.{state}
 use Rattle.fs_script.specs.Front.{front, is_open}
-use Rattle.core_machine.specs.Doing.{Broadcast, Doing}
-use Rattle.core_machine.specs.Sends.{broadcast_of, reached}
+use Rattle.core_machine.specs.Doing.{Doing}
 use Rattle.core_machine.specs.Moment.{Client, Moment, answering, client_of, journal, log_of, next_line, with_entry}
 use Rattle.core_machine.specs.Slots.{empty_slots, with_line, without_dead}
 use Rattle.core_machine.specs.Event.{Event, PathNow, known_of}
@@ -69,17 +67,9 @@ abbrev pub answers_with : ℕ → Option Answer → List (ℕ × Answer) → Lis
 answers_with n None xs = xs
 answers_with n (Some a) xs = put_answer n a xs
 
--- a client after an event of its line n: an answer brings it to the next one
-abbrev pub after_turn : Job → ℕ → Client → Event → Client
-after_turn s n c e = record {
-  place = if is_some e.answer then c.place + 1 else c.place;
-  doing = e.doing;
-  sends = broadcast_of s n e.sends;
-}
-
--- a client once one more server was told
-abbrev pub after_reach : Client → Broadcast → Client
-after_reach c b = record { place = c.place; doing = c.doing; sends = reached b }
+-- a client after an event of its line: an answer brings it to the next one
+abbrev pub after_turn : Client → Event → Client
+after_turn c e = record { place = if is_some e.answer then c.place + 1 else c.place; doing = e.doing }
 
 -- the logs once client r's line n had this event
 abbrev pub logs_with : Moment → ℕ → ℕ → Event → List (List (Option Piece))
@@ -89,7 +79,7 @@ logs_with m r n e = if e.fills then slice_set m.logs r (with_line m.job n (log_o
 abbrev pub had_event : Moment → ℕ → ℕ → OpLine → Event → Moment
 had_event m r n o e = record {
   job = m.job;
-  clients = slice_set m.clients r (after_turn m.job n (client_of m r) e);
+  clients = slice_set m.clients r (after_turn (client_of m r) e);
   answers = answers_with n e.answer m.answers;
   journals = if e.commits then with_entry o.path n m.journals else m.journals;
   logs = logs_with m r n e;
@@ -108,15 +98,6 @@ abbrev pub step_at : Moment → ℕ → Option ℕ → Moment
 step_at m r None = m
 step_at m r (Some n) = step_line m r n (op_at m.job n)
 
--- the moment once one more server was told of client r's last line
-abbrev pub reach : Moment → ℕ → Broadcast → Moment
-reach m r b = record m { clients = slice_set m.clients r (after_reach (client_of m r) b) }
-
--- the moment after an event of client r, by whether a server is left to be told
-abbrev pub step_of : Moment → ℕ → Option Broadcast → Moment
-step_of m r None = step_at m r (next_line m r)
-step_of m r (Some b) = reach m r b
-
 -- the moment after one event of the client whose turn it is; a client with no line left has none
 abbrev pub step : Moment → Turn → Moment
-step m t = step_of m t.client (client_of m t.client).sends
+step m t = step_at m t.client (next_line m t.client)

@@ -1,5 +1,5 @@
 -- What a client is in the midst of, as the code keeps it.
-use Rattle.std.specs.Prelude.{◌≡◌, ℕ, ◌+◌, ◌<◌, ◌≤◌, List, length, take, slice_index, All, is_some, not, Bool, Option, Some, None}
+use Rattle.std.specs.Prelude.{◌≡◌, ℕ, ◌+◌, ◌<◌, ◌≤◌, List, length, take, slice_index, All, is_some, Option, Some, None}
 use Rattle.fs_types.specs.FragmentMarks.{mark_at, marks_of_fragments}
 use Rattle.fs_types.specs.Fragments.{fragment_count}
 use Rattle.piece_table.specs.HeldSpans.{is_named}
@@ -8,10 +8,8 @@ use Rattle.fs_script.specs.Vocabulary.{Fragment, Job, Mark, Piece, marked_byte, 
 use Rattle.core_machine.specs.declared.plain_hold.PlainHold.{PlainHold}
 use Rattle.core_machine.specs.declared.task.ReadTask.{ReadTask}
 use Rattle.core_machine.specs.declared.task.Task.{Task}
-use Rattle.core_machine.specs.declared.task.SendTask.{SendTask}
-use Rattle.core_machine.specs.declared.task.Task.TheVariants.{Idle, Read, Send}
-use Rattle.core_machine.specs.Sends.{reached}
-use Rattle.core_machine.specs.Doing.{Broadcast, Doing, Reading, nothing, reading}
+use Rattle.core_machine.specs.declared.task.Task.TheVariants.{Idle, Read}
+use Rattle.core_machine.specs.Doing.{Doing, Reading, nothing, reading}
 
 -- the marks of the bytes that a read shows
 abbrev pub marks_of_task : ReadTask → List (Option Mark)
@@ -23,16 +21,6 @@ reading_of t = record { version = t.version; marks = marks_of_task t; fetched = 
 abbrev pub doing_of : Task → Doing
 doing_of Idle = nothing
 doing_of (Read t) = reading (reading_of t)
-doing_of (Send t) = nothing
-
-abbrev pub broadcast_in : SendTask → Broadcast
-broadcast_in t = record { line = t.line; version = t.version; left = t.left }
-
--- the line that servers are told of
-abbrev pub sends_of : Task → Option Broadcast
-sends_of Idle = None
-sends_of (Read t) = None
-sends_of (Send t) = Some (broadcast_in t)
 
 -- a read pins each piece that its runs name, once, and no other, and counts the runs of each; a run lies in its piece
 pub record PinsRuns (runs : List Fragment) (pins : Pieces PlainHold) : Type 0 where
@@ -52,24 +40,8 @@ pub record IsReadTask (s : Job) (t : ReadTask) : Type 0 where
 abbrev pub IsTask : Job → Task → Type 0
 IsTask s Idle = Unit {0}
 IsTask s (Read t) = IsReadTask s t
-IsTask s (Send t) = Unit {0}
-
--- once its line was answered a client is in the midst of nothing, or servers are told of the line
-abbrev pub IsOver : Task → Type 0
-IsOver Idle = Unit {0}
-IsOver (Read t) = ⊥
-IsOver (Send t) = Unit {0}
-
--- one server more was told, and that was the last or not
-pub record TellsNext (old new : Task) (last : Bool) : Type 0 where
-  pub tells : Broadcast
-  pub was : sends_of old ≡ Some tells
-  pub over : IsOver new
-  pub now : sends_of new ≡ reached tells
-  pub ends : last ≡ not (is_some (sends_of new))
 
 -- the holds of what a client is in the midst of
 abbrev pub task_hold : Task → Piece → Option PlainHold
 task_hold Idle q = None
 task_hold (Read t) q = hold_of t.pins q
-task_hold (Send t) q = None

@@ -23,7 +23,7 @@ mod write;
 
 use crate::books::Book;
 use crate::client::Client;
-use crate::task::{Task, tell_others};
+use crate::task::Task;
 use client_files::Board;
 use fs_dev::SpillDev;
 use fs_script::{Op, OpLine, Script};
@@ -43,8 +43,7 @@ pub fn may_commit(op: &Op) -> bool
 }
 
 /// One event of line `n`, of whose path the book has the file; `client` is its client, and `task`
-/// what that is in the midst of. No answer means that the line goes on; after one the other servers
-/// may have to be told of the line. After want of memory all
+/// what that is in the midst of. No answer means that the line goes on. After want of memory all
 /// that is kept is open, but what the book and the client have of other paths.
 pub fn event<D: SpillDev + Drop>(
     alloc: Global,
@@ -120,15 +119,7 @@ pub fn event<D: SpillDev + Drop>(
         Op::Trunc { n: size } => Ok(Some(trunc::trunc(
             alloc, n, *size, book, gfid, p, client, logs,
         )?)),
-        Op::Laminate => {
-            let answer = laminate::laminate(alloc, n, book, gfid, p, client, logs)?;
-            *task = tell_others(s, n, &answer);
-            Ok(Some(answer))
-        }
-        Op::Unlink => {
-            let answer = unlink::unlink(alloc, n, book, gfid, p, client, logs)?;
-            *task = tell_others(s, n, &answer);
-            Ok(Some(answer))
-        }
+        Op::Laminate => Ok(Some(laminate::laminate(alloc, n, book, gfid, p, client, logs)?)),
+        Op::Unlink => Ok(Some(unlink::unlink(alloc, n, book, gfid, p, client, logs)?)),
     }
 }

@@ -16,7 +16,7 @@ ghost use Rattle.core_machine.specs.Logs.{device_state};
 ghost use Rattle.core_machine.specs.Moment.{IsFirst, ready};
 ghost use Rattle.core_machine.specs.MomentKept.{moment_of};
 ghost use Rattle.core_machine.specs.PathStates.{AreKept, AreToldBut};
-ghost use Rattle.core_machine.specs.Standing.{Holds, SendsNothing};
+ghost use Rattle.core_machine.specs.Standing.{Holds};
 ghost use Rattle.core_machine.specs.Step.{step};
 ghost use Rattle.core_machine.specs.Turns.{after_line, going, turns_then, IsInPhase};
 
@@ -165,23 +165,21 @@ fn event_on_path<D: SpillDev + Drop>(
     )
 }
 
-// One event of the next line of a client that goes, where no server is left to be told of its last
-// one; whether the client is over with the line. After want of memory what is kept for that line's
-// path and for the client, and the logs, are open.
+// One event of the next line of a client that goes; whether the line was answered. After want of
+// memory what is kept for that line's path and for the client, and the logs, are open.
 fn event_of_line<D: SpillDev + Drop>(run: &mut Run<'_, D>, r: Rank) -> Result<bool, Want>
     requires run { IsRun run.old }
     requires unspent { run.old.spent ≡ false }
     requires going { Contains (going run.old.turns) r }
-    requires quiet { SendsNothing run.old.tasks.items r }
     ensures kept { AreKept run.new.script.now run.new.books.items run.new.clients.items }
     ensures sized { length run.new.logs.items ≡ length run.old.logs.items }
     ensures told { OnOk result (AreToldBut run.new.script.now run.new.changing.items run.new.board
         run.new.books.items) }
-    ensures holds { IfOk result (λ ended. Holds run.new.script.now run.new.paths
-        (states run.new) run.new.answers (turns_then ended r run.new.turns)
+    ensures holds { IfOk result (λ answered. Holds run.new.script.now run.new.paths
+        (states run.new) run.new.answers (turns_then answered r run.new.turns)
         run.new.tasks.items run.new.logs.items) }
-    ensures step { IfOk result (λ ended. moment_of run.new.script.now run.new.paths
-        (states run.new) run.new.answers (turns_then ended r run.new.turns)
+    ensures step { IfOk result (λ answered. moment_of run.new.script.now run.new.paths
+        (states run.new) run.new.answers (turns_then answered r run.new.turns)
         run.new.tasks.items run.new.logs.items false
         ≡ step (moment run.old) (record { client = r })) }
     ensures rest { run.new ≡ record run.old {
@@ -212,48 +210,13 @@ fn event_of_line<D: SpillDev + Drop>(run: &mut Run<'_, D>, r: Rank) -> Result<bo
     match answer {
         Some(answer) => {
             run.answers.set(n, answer);
-            let ended = !run.tasks[r.0 as usize].sends();
             if event::may_commit(&o.op) {
                 run.changing.push(n)?;
             }
-            Ok(ended)
+            Ok(true)
         }
         None => Ok(false),
     }
-}
-
-// One event of a client that goes: one server more is told of its last line, where one is left, or
-// its next line has one; whether the client is over with the line. After want of memory what is kept
-// for that line's path and for the client, and the logs, are open.
-fn event_of_client<D: SpillDev + Drop>(run: &mut Run<'_, D>, r: Rank) -> Result<bool, Want>
-    requires run { IsRun run.old }
-    requires unspent { run.old.spent ≡ false }
-    requires going { Contains (going run.old.turns) r }
-    ensures kept { AreKept run.new.script.now run.new.books.items run.new.clients.items }
-    ensures sized { length run.new.logs.items ≡ length run.old.logs.items }
-    ensures told { OnOk result (AreToldBut run.new.script.now run.new.changing.items run.new.board
-        run.new.books.items) }
-    ensures holds { IfOk result (λ ended. Holds run.new.script.now run.new.paths
-        (states run.new) run.new.answers (turns_then ended r run.new.turns)
-        run.new.tasks.items run.new.logs.items) }
-    ensures step { IfOk result (λ ended. moment_of run.new.script.now run.new.paths
-        (states run.new) run.new.answers (turns_then ended r run.new.turns)
-        run.new.tasks.items run.new.logs.items false
-        ≡ step (moment run.old) (record { client = r })) }
-    ensures rest { run.new ≡ record run.old {
-      books = run.new.books;
-      changing = run.new.changing;
-      clients = run.new.clients;
-      tasks = run.new.tasks;
-      logs = run.new.logs;
-      answers = run.new.answers;
-    } }
-{
-    let at = r.0 as usize;
-    if run.tasks[at].sends() {
-        return Ok(run.tasks[at].tell_next());
-    }
-    event_of_line(run, r)
 }
 
 // Tells all clients of the path of line `n` what its owner has.
@@ -350,7 +313,7 @@ pub fn advance<D: SpillDev + Drop>(run: &mut Run<'_, D>, r: Rank) -> Result<(), 
     ensures nearer { OnOk result (events_left (moment run.new) < events_left (moment run.old)) }
     ensures spent { OnErr result (run.new.spent ≡ true) }
 {
-    match event_of_client(run, r) {
+    match event_of_line(run, r) {
         Ok(true) => {
             if let Err(want) = go_on(run, r) {
                 run.spent = true;

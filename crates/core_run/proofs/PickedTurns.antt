@@ -6,7 +6,7 @@ use Rattle.std.proofs.lemmas.Bool.{cases_lt}
 use Rattle.fs_types.proofs.Common.{none-some}
 use Rattle.fs_script.specs.Vocabulary.{Answer, Job, Report, answers_of}
 use Rattle.core_machine.specs.LegalSoFar.{CanRun, Reaches}
-use Rattle.core_machine.specs.Moment.{Moment, answering, ready}
+use Rattle.core_machine.specs.Moment.{Moment, printed, ready}
 use Rattle.core_machine.specs.RunLaws.{AnswersWereGiven, GivenAnswersStand}
 use Rattle.core_machine.specs.Step.{Turn, step}
 use Rattle.core_run.specs.PickedRun.{IsReportUnder, chosen, moment_after, pick_at, picked, turns_of, turns_under}
@@ -115,7 +115,7 @@ module _ {picks : List ℕ} {s : Job} {R : Report} (k : ℕ) (a : Answer) (reach
   reaches : Reaches m (turns_under picks m end) under.last
   reaches = subst (λ (x : Moment). Reaches m (turns_under picks m end) x) (sym under.run.goes) (reached picks m end)
 
-  said : answering under.last k ≡ answers_of R k
+  said : printed under.last k ≡ answers_of R k
   said = ap (λ (r : Report). answers_of r k) (sym under.reported)
 
   -- an answer of the report came at an event that the picks chose
@@ -135,7 +135,6 @@ module _ {picks : List ℕ} {s : Job} {R : Report} (k : ℕ) (a : Answer) (reach
           op = was.op;
           is = was.is;
           turn = ap (chosen picks at.events) comes ∙ at.turn;
-          quiet = was.quiet;
           next = was.next;
         };
         gives = was.gives;
@@ -164,7 +163,6 @@ module _ {picks : List ℕ} {s : Job} {R : Report} (k : ℕ) (a : Answer) (reach
         all = rest.1;
         reaches = subst (λ (x : Moment). Reaches m (turns_under picks m event.events) x) (sym comes) (reached picks m event.events);
         waits = ready-chosen picks event.events r event.then event.turn;
-        quiet = event.quiet;
         next = event.next;
         is = event.is;
         gives = was.gives;

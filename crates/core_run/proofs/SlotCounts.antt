@@ -93,7 +93,6 @@ abc_was_written = record {
     op = on_a (ops.Write 0 (Text (codes "abc")));
     is = refl;
     turn = refl;
-    quiet = refl;
     next = refl;
   };
   gives = refl;

@@ -1,12 +1,12 @@
 -- The laws of runs under picks: a job has one first moment, and one report under a list of picks; such a run is one of the
 -- machine, so the machine's laws hold of its moments; and the answers of its report are those of events that the picks chose.
-use Rattle.std.specs.Prelude.{◌≡◌, ◌↔◌, ℕ, List, Some, None}
+use Rattle.std.specs.Prelude.{◌≡◌, ◌↔◌, ℕ, List, Some}
 use Rattle.fs_types.specs.declared.answer.Answer.TheVariants as answers
 use Rattle.fs_script.specs.Grammar.{IsJob}
 use Rattle.fs_script.specs.Vocabulary.{Answer, Job, Report, answers_of, op_at}
 use Rattle.fs_script.specs.declared.line.OpLine.{OpLine}
 use Rattle.core_machine.specs.LegalSoFar.{CanRun, Reaches}
-use Rattle.core_machine.specs.Moment.{Moment, IsFirst, client_of, next_line}
+use Rattle.core_machine.specs.Moment.{Moment, IsFirst, next_line}
 use Rattle.core_machine.specs.RunLaws.{AsksForSlots, LacksSlots, seen_by}
 use Rattle.core_machine.specs.Step.{event_at}
 use Rattle.core_run.specs.PickedRun.{IsReportUnder, chosen, moment_after, turns_under}
@@ -28,7 +28,7 @@ abbrev pub JobsCanRun : Type 0
 JobsCanRun = (s : Job) → IsJob s → CanRun s
 
 -- line k of s had an event in its run under these picks: after so many events the pick chose the line's client of those that were
--- ready, no server was left to be told of that client's last line, and the line was its next one
+-- ready, and the line was that client's next one
 pub record HadEvent (picks : List ℕ) (s : Job) (k : ℕ) : Type 0 where
   pub first : Moment
   pub begins : IsFirst s first
@@ -38,7 +38,6 @@ pub record HadEvent (picks : List ℕ) (s : Job) (k : ℕ) : Type 0 where
   pub op : OpLine
   pub is : op_at s k ≡ Some op
   pub turn : chosen picks events then ≡ Some op.rank
-  pub quiet : (client_of then op.rank).sends ≡ None
   pub next : next_line then op.rank ≡ Some k
 
 -- it was answered a there

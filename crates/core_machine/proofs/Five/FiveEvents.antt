@@ -11,7 +11,7 @@ use Rattle.fs_types.specs.declared.answer.Body.TheVariants as bodies
 abbrev moment_at : ℕ → Doing → List (ℕ × Answer) → List ℕ → List (Option Piece) → Moment
 moment_at place doing given committed log = record {
   job = five_lines;
-  clients = record { place = place; doing = doing; sends = None } ∷ [];
+  clients = record { place = place; doing = doing } ∷ [];
   answers = given;
   journals = (path_a, committed) ∷ [];
   logs = log ∷ [];

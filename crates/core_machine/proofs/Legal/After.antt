@@ -1,21 +1,18 @@
 -- The clients after one of them had an event of its line.
-use Rattle.fs_types.proofs.Common.{List, ◌≡◌, ◌≢◌, ℕ, ◌<◌, true, IfSome, IsSome, is_some, length, refl, sym, ap, ◌∙◌, subst, inl, inr, arith}
-use Rattle.fs_types.proofs.Common.{cases_eq, length-set, get_or-set_same, get_or-set_other, true≢false}
+use Rattle.fs_types.proofs.Common.{List, ◌≡◌, ◌≢◌, ℕ, ◌<◌, length, sym, ◌∙◌, subst, inl, inr, arith, cases_eq, length-set}
+use Rattle.fs_types.proofs.Common.{get_or-set_same, get_or-set_other}
 use Rattle.fs_script.specs.Vocabulary.{Answering}
 use Rattle.core_machine.specs.Vocabulary.{Doing, Client, Moment, client_of, fresh_client, Event, after_turn, after_event, nothing, reading}
-use Rattle.core_machine.specs.Vocabulary.{Reading, answering, has_begun, printed}
+use Rattle.core_machine.specs.Vocabulary.{Reading}
 use Rattle.core_machine.specs.Vocabulary.{IsAnsweredUpTo, IsUnderWay, MayGoOn}
-use Rattle.core_machine.proofs.Places.{unanswered}
-use Rattle.core_machine.proofs.Legal.Phases.{has_begun-stays}
-use Rattle.core_machine.proofs.Legal.Sends.{broadcast_of-apart, broadcast_of-some, counted-printed, printed-set}
-use Rattle.core_machine.proofs.Legal.Turns.{IsTurn, stands, within_clients}
+use Rattle.core_machine.proofs.Legal.Turns.{IsTurn, within_clients}
 
 module _ {told : List ℕ} {m : Moment} {r : ℕ} (t : IsTurn told m r) (e : Event) where
   abbrev pub after : Moment
   after = after_event m r t.number t.line e
 
   abbrev pub client_after : Client
-  client_after = after_turn m.job t.number (client_of m r) e
+  client_after = after_turn (client_of m r) e
 
   pub clients-after : length after.clients ≡ m.job.shape.clients
   clients-after = length-set m.clients r client_after ∙ t.so_far.clients
@@ -50,23 +47,3 @@ module _ {told : List ℕ} {m : Moment} {r : ℕ} (t : IsTurn told m r) (e : Eve
       by : (i : ℕ) → i ≢ r → (d : Doing) → MayGoOn told m i d → MayGoOn told after i d
       by i other nothing goes = tt
       by i other (reading d) goes = others i d other goes
-
-  -- where servers are told of a client's last line, some are left
-  pub sends-after : (i : ℕ) → i < m.job.shape.clients → IfSome (client_of after i).sends (λ b. 0 < b.left)
-  sends-after = each_client (λ i c. IfSome c.sends (λ b. 0 < b.left)) (broadcast_of-some m.job t.number e.sends)
-      (λ i other within. t.so_far.sends i within)
-
-  -- ---- what was printed, where what was answered has an answer
-
-  module _ (answered : (k : ℕ) → IsSome (answering m k) → IsSome (answering after k)) where
-    -- what was printed is: the line itself had no answer
-    pub printed-after : (k : ℕ) → IsSome (printed m k) → IsSome (printed after k)
-    printed-after k given =
-        let counts = counted-printed m k given in
-        let apart : k ≢ t.number = λ same.
-        true≢false (sym counts ∙ ap (λ i. is_some (answering m i)) same ∙ ap is_some (unanswered (stands t))) in
-        printed-set m after r k client_after refl (broadcast_of-apart m.job t.number e.sends k apart) given (answered k counts)
-
-    -- so each phase that has begun goes on
-    pub begun-after : (n : ℕ) → has_begun m n ≡ true → has_begun after n ≡ true
-    begun-after n = has_begun-stays m after n refl printed-after

@@ -3,23 +3,22 @@
 use Rattle.fs_types.proofs.Common.{common_steps, ◌≡◌, ℕ, zero, suc, ◌+◌, ◌≤◌, ◌<◌, true, false, List, [], length, map, Some, None, IsSome}
 use Rattle.fs_types.proofs.Common.{is_some, slice_get, slice_index, Contains, ltb-false, le-ltb, le-leb, true≢false, refl, sym, ap, ◌∙◌}
 use Rattle.fs_types.proofs.Common.{subst, inl, inr, arith, or_left, or_right, cases_Bool, cases_lt, false_from_ne_true, All-map}
-use Rattle.fs_types.proofs.Common.{recursion_from_All, slice_get-get_or, slice_get_within, map-map, Option}
+use Rattle.fs_types.proofs.Common.{recursion_from_All, slice_get-get_or, slice_get_within, map-map}
 use Rattle.fs_types.proofs.Common.{Bool, nat_lt, filter_agree, range_with_len, length-range_with_len, get_or-range_with_len, get_or}
 use Rattle.std.proofs.lemmas.List.{map-id}
 use Rattle.std.proofs.lemmas.List.Elements.{All-from_get_or}
 use Rattle.std.proofs.lemmas.List.Sums.{sum_by-le}
 use Rattle.fs_script.specs.Vocabulary.{Piece, AreCounted, SlotsAreCounted, live_or_pending, pieces_by, FileState, Job, op_at, op_lines}
 use Rattle.fs_script.specs.Vocabulary.{is_of_rank, program, Answering, file_state_of, IsLegal}
-use Rattle.core_machine.specs.Vocabulary.{Broadcast, Doing, Client, nothing, reading, fresh_client, names, readers_of, holds_of, is_owned, census}
+use Rattle.core_machine.specs.Vocabulary.{Doing, Client, nothing, reading, fresh_client, names, readers_of, holds_of, is_owned, census}
 use Rattle.core_machine.specs.Vocabulary.{log_of, MayGoOn}
 use Rattle.core_machine.specs.Vocabulary.{OpLine, Moment, printed, answering, journal, client_of, file_now, has_begun, may_come, next_line}
-use Rattle.core_machine.specs.Vocabulary.{is_ready, ready, report_of}
+use Rattle.core_machine.specs.Vocabulary.{ready, report_of}
 use Rattle.core_machine.specs.Vocabulary.{IsAnsweredUpTo, IsLegalMoment}
 use Rattle.fs_script.proofs.CallerLemmas.{rises_past, lines-passing, IsLegal-finished, phase-rises, some_of, op_at-within, passing-rise}
 use Rattle.fs_script.proofs.CallerLemmas.{program-place, program-op}
 use Rattle.fs_script.proofs.CallerLemmas.{length-live_or_pending, Contains-passing}
 use Rattle.core_machine.proofs.Legal.Phases.{lets_begin, has_begun-from}
-use Rattle.core_machine.proofs.Legal.Sends.{printed-from, untold-each}
 use Rattle.core_machine.proofs.Legal.Logs.{one_if, held_and_free, count-pieces_of_log}
 use Rattle.core_machine.proofs.Legal.Census.{held-count}
 
@@ -46,34 +45,19 @@ no_operation s n past = grind (arith, common_steps, false_from_ne_true, some_of,
 
 module _ {told : List ℕ} {m : Moment} (so_far : IsLegalMoment told m)
     (none : ready m ≡ []) (going : m.spent ≡ false) where
-  -- no client has an event left
-  none_ready : (r : ℕ) → r < m.job.shape.clients → is_ready m r ≡ true → ⊥
-  none_ready r within passes =
-      let has = Contains-passing (is_ready m) 0 m.job.shape.clients r passes (omega arith) (omega arith) in
+  -- a client whose next line's phase has begun would be ready
+  none_comes : (r n : ℕ) → r < m.job.shape.clients → next_line m r ≡ Some n → has_begun m n ≡ true → ⊥
+  none_comes r n within next begun =
+      let comes = λ (i : ℕ). may_come m (next_line m i) in
+      let passes = ap (may_come m) next ∙ begun in
+      let has = Contains-passing comes 0 m.job.shape.clients r passes (omega arith) (omega arith) in
       let found : Contains [] r = subst (λ xs. Contains xs r) (rw going at none) has in
       omega (arith, found.1)
 
-  -- a client whose next line's phase has begun would have one
-  none_comes : (r n : ℕ) → r < m.job.shape.clients → next_line m r ≡ Some n → has_begun m n ≡ true → ⊥
-  none_comes r n within next begun =
-      none_ready r within (or_right (is_some (client_of m r).sends) (may_come m (next_line m r)) (ap (may_come m) next ∙ begun))
-
-  -- so would one that has a server left to tell
-  none_sends : (r : ℕ) → r < m.job.shape.clients → (client_of m r).sends ≡ None
-  none_sends r within = by (client_of m r).sends refl where
-    by : (o : Option Broadcast) → (client_of m r).sends ≡ o → o ≡ None
-    by None is = refl
-    by (Some b) is =
-        absurd (none_ready r within (or_left (is_some (client_of m r).sends) (may_come m (next_line m r)) (ap is_some is)))
-
-  -- so what counts is printed
-  printed-is : (n : ℕ) → printed m n ≡ answering m n
-  printed-is n = printed-from m n (untold-each m n (λ i below. none_sends i (omega (arith, below, so_far.clients))))
-
   -- an operation has an answer where each before it has one, since its client isn't ready
   answered-next : (n : ℕ) (o : OpLine) → op_at m.job n ≡ Some o
-      → ((k : ℕ) (l : OpLine) → k < n → op_at m.job k ≡ Some l → IsSome (answering m k)) → IsSome (answering m n)
-  answered-next n o is earlier = elim (cases_Bool (is_some (answering m n))) [
+      → ((k : ℕ) (l : OpLine) → k < n → op_at m.job k ≡ Some l → IsSome (printed m k)) → IsSome (printed m n)
+  answered-next n o is earlier = elim (cases_Bool (is_some (printed m n))) [
     | inl given ↦ given
     | inr fresh ↦
         let r = o.rank in
@@ -81,27 +65,27 @@ module _ {told : List ℕ} {m : Moment} (so_far : IsLegalMoment told m)
         let at = program-place m.job n o is in
         let upto = so_far.places r within in
         let place = (client_of m r).place in
-        let here = place-is m.job (answering m) r place at.0 n upto at.1 fresh earlier in
+        let here = place-is m.job (printed m) r place at.0 n upto at.1 fresh earlier in
         let next = ap (slice_get (program m.job r)) here ∙ at.1 in
         absurd (none_comes r n within next (has_begun-from m n begun))
   ]
     where
       begun : (k : ℕ) (l : OpLine) → op_at m.job k ≡ Some l → lets_begin m n k ≡ true
       begun k l op = elim (cases_lt k n) [
-        | inl before ↦ or_left _ _ (ap is_some (printed-is k) ∙ earlier k l before op)
+        | inl before ↦ or_left _ _ (earlier k l before op)
         | inr after ↦ or_right _ _ (le-leb _ _ (phase-rises m.job n k after))
       ]
 
   -- so each below a line has one
-  answered-below : (below n : ℕ) (o : OpLine) → n < below → op_at m.job n ≡ Some o → IsSome (answering m n)
+  answered-below : (below n : ℕ) (o : OpLine) → n < below → op_at m.job n ≡ Some o → IsSome (printed m n)
   answered-below zero n o lt is = absurd (omega arith)
   answered-below (suc below) n o lt is = answered-next n o is (λ k l before op. answered-below below k l (omega arith) op)
 
-  unanswered : (n : ℕ) → is_some (op_at m.job n) ≡ false → answering m n ≡ None
+  unanswered : (n : ℕ) → is_some (op_at m.job n) ≡ false → printed m n ≡ None
   unanswered n not_one = grind (arith, common_steps)
 
   -- each operation has an answer, and nothing else
-  answers-at_end : (n : ℕ) → is_some (answering m n) ≡ is_some (op_at m.job n)
+  answers-at_end : (n : ℕ) → is_some (printed m n) ≡ is_some (op_at m.job n)
   answers-at_end n = grind (arith, common_steps, some_of, answered-below, unanswered)
 
   lines-at_end : map (λ a. a.0) m.answers ≡ op_lines m.job

@@ -2,11 +2,11 @@
 use Rattle.fs_types.proofs.Common.{◌≡◌, ℕ, ◌+◌, ◌<◌, List, [], ◌∷◌, length, bytes_eq, Some, None, Option, Contains, refl, sym, ap}
 use Rattle.fs_types.proofs.Common.{◌∙◌, subst, arith, AllByRecursion, cond_both, length-replicate, get_or-replicate, replicate, slice_get}
 use Rattle.fs_types.proofs.Common.{none-some}
-use Rattle.fs_types.proofs.Common.{true≢false, slice_get_within, get_or_from_slice_get, cases_Bool, inl, inr, IfSome, IsSome, is_some}
+use Rattle.fs_types.proofs.Common.{true≢false, slice_get_within, get_or_from_slice_get, cases_Bool, inl, inr, IsSome, is_some}
 use Rattle.fs_types.proofs.Common.{slice_index_or, nat_lt, All, All-replicate, ◌≤◌, le-ltb}
 use Rattle.std.proofs.lemmas.List.Sums.{sum_by-le}
 use Rattle.fs_script.specs.Vocabulary.{Piece, IsRising, answer_at, journal_of, was_accepted}
-use Rattle.core_machine.specs.Vocabulary.{Client, Moment, answering, journal, client_of, fresh_client, log_of, names, readers_of}
+use Rattle.core_machine.specs.Vocabulary.{Client, Moment, answering, printed, journal, client_of, fresh_client, log_of, names, readers_of}
 use Rattle.core_machine.specs.Vocabulary.{holds_of, is_owned}
 use Rattle.core_machine.specs.Vocabulary.{IsFirst, CanRun, IsLegalMoment, MayGoOn}
 use Rattle.fs_script.proofs.CallerLemmas.{IsLegalSoFar-none, IsPart-either}
@@ -16,14 +16,14 @@ module _ {m : Moment} (can : CanRun m.job) (first : IsFirst m.job m) where
   abbrev slots : ℕ
   slots = m.job.shape.shmem + m.job.shape.spill
 
-  unanswered : (n : ℕ) → answering m n ≡ None
+  unanswered : (n : ℕ) → printed m n ≡ None
   unanswered n = ap (λ xs. answer_at xs n) first.answers
 
   empty-journals : (js : List (List ℕ × List ℕ)) (p : List ℕ) → AllByRecursion (λ j. j.1 ≡ []) js → journal_of js p ≡ []
   empty-journals [] p all = refl
   empty-journals (j ∷ js) p all = cond_both (bytes_eq j.0 p) _ _ (λ J. J ≡ []) (λ _. all.0) (λ _. empty-journals js p all.1)
 
-  none-answered : (n : ℕ) → IsSome (answering m n) → ⊥
+  none-answered : (n : ℕ) → IsSome (printed m n) → ⊥
   none-answered n given = true≢false (sym given ∙ ap is_some (unanswered n))
 
   -- each client is before its first line, and its log is empty
@@ -72,7 +72,6 @@ module _ {m : Moment} (can : CanRun m.job) (first : IsFirst m.job m) where
     paths = first.paths;
     legal = IsLegalSoFar-none told m.job (answering m) (journal m) unanswered (λ p. empty-journals m.journals p first.journals);
     under_way = λ r within. subst (λ c. MayGoOn told m r c.doing) (sym (at_first r within)) tt;
-    sends = λ r within. subst (λ (c : Client). IfSome c.sends (λ b. 0 < b.left)) (sym (at_first r within)) tt;
     logs = ap length first.logs ∙ length-replicate m.job.shape.clients (replicate slots None);
     slots = λ r within. record {
       sized = ap length (empty_log r within) ∙ length-replicate slots None;

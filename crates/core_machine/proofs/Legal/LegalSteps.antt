@@ -8,9 +8,9 @@ use Rattle.fs_script.specs.Vocabulary.{Answer, Piece, answer_at, put_answer, op_
 use Rattle.fs_script.specs.Vocabulary.{journal_of}
 use Rattle.fs_script.specs.Vocabulary.{ArePaths, AddsAnswer, IsLegalSoFar, IsNextAnswer, Pushes, is_live, is_pending, was_accepted, need}
 use Rattle.fs_script.specs.Vocabulary.{Fits, parts_of, program}
-use Rattle.core_machine.specs.Vocabulary.{Broadcast, Doing, Reading, nothing, reading, Moment, printed, answering, client_of, journal, log_of}
+use Rattle.core_machine.specs.Vocabulary.{Doing, Reading, nothing, reading, Moment, printed, answering, client_of, journal, log_of}
 use Rattle.core_machine.specs.Vocabulary.{with_entry, ready}
-use Rattle.core_machine.specs.Vocabulary.{Event, Turn, event_at, still_held, had_event, step, step_of, IsAnsweredUpTo, IsUnderWay, MayGoOn}
+use Rattle.core_machine.specs.Vocabulary.{Event, Turn, event_at, still_held, had_event, step, IsAnsweredUpTo, IsUnderWay, MayGoOn}
 use Rattle.core_machine.specs.Vocabulary.{IsLegalMoment, is_owned, names, empty_slots, to_show}
 use Rattle.fs_types.proofs.CallerLemmas.{IsRisingFrom-put_answer}
 use Rattle.fs_script.proofs.CallerLemmas.{pending-agree, AddsAnswer-put, AgreeBefore-next, IsLegalSoFar-kept, IsLegalSoFar-commit}
@@ -22,11 +22,8 @@ use Rattle.core_machine.proofs.Legal.Events.{event_of-legal}
 use Rattle.core_machine.proofs.Legal.Journals.{paths-with_entry, Pushes-with_entry}
 use Rattle.core_machine.proofs.Legal.Phases.{begun-answered}
 use Rattle.core_machine.proofs.Places.{upto-own, upto-other}
-use Rattle.core_machine.proofs.Legal.Turns.{IsTurn, IsTurn-from_quiet, ready-within, step-is, stands, comes_next, no_later_phase, coming}
-use Rattle.core_machine.proofs.Legal.Turns.{within_clients}
-use Rattle.core_machine.proofs.Legal.After.{after, begun-after, clients-after, client-own, places-after, printed-after, sends-after}
-use Rattle.core_machine.proofs.Legal.After.{under_way-after}
-use Rattle.core_machine.proofs.Legal.Reaching.{reach-legal}
+use Rattle.core_machine.proofs.Legal.Turns.{IsTurn, IsTurn-from_ready, step-is, stands, comes_next, no_later_phase, coming, within_clients}
+use Rattle.core_machine.proofs.Legal.After.{after, clients-after, client-own, places-after, under_way-after}
 use Rattle.core_machine.proofs.Legal.UnderWay.{of_another, of_no_later_phase, goes_on}
 use Rattle.core_machine.proofs.Legal.Measured.{IsMeasured, event_of-measured, need_of}
 use Rattle.core_machine.proofs.Legal.Slots.{IsKeeping, slots-after, accepted-after}
@@ -70,12 +67,11 @@ module _ {told : List ℕ} {m : Moment} {r : ℕ} (t : IsTurn told m r) where
 
 -- ---- an event that brings no answer
 
-module _ {told : List ℕ} {m : Moment} {r : ℕ} (t : IsTurn told m r) (fills : Bool) (doing : Doing)
-    (sends : Option ℕ) where
+module _ {told : List ℕ} {m : Moment} {r : ℕ} (t : IsTurn told m r) (fills : Bool) (doing : Doing) where
   open t use {number as n, line as o, so_far, is}
 
   abbrev continues : Event
-  continues = record { answer = None; commits = false; fills = fills; doing = doing; sends = sends }
+  continues = record { answer = None; commits = false; fills = fills; doing = doing }
 
   keeping-unanswered : Measured t continues → IsKeeping t continues
   keeping-unanswered measured = record {
@@ -94,7 +90,7 @@ module _ {told : List ℕ} {m : Moment} {r : ℕ} (t : IsTurn told m r) (fills :
     op = o;
     next = ap (λ c. slice_get (program m.job r) c.place) (client-own t continues) ∙ t.next;
     is = is;
-    begun = begun-after t continues (λ k given. given) n t.begun;
+    begun = t.begun;
     fits = record { opened = may.opened; version = may.version; answer = may.answer };
   }
 
@@ -104,15 +100,14 @@ module _ {told : List ℕ} {m : Moment} {r : ℕ} (t : IsTurn told m r) (fills :
       record {
         job = so_far.job;
         clients = clients-after t continues;
-        places = places-after t continues (answering m) (so_far.places r (within_clients t)) (λ i other within. so_far.places i within);
+        places = places-after t continues (printed m) (so_far.places r (within_clients t)) (λ i other within. so_far.places i within);
         operations = so_far.operations;
-        phases = λ k j given there before. printed-after t continues (λ i was. was) j (so_far.phases k j given there before);
+        phases = so_far.phases;
         rising = so_far.rising;
         paths = so_far.paths;
         legal = so_far.legal;
         under_way = under_way-after t continues (goes-on doing may)
             (λ i d other w. goes_on t i d other w continues (λ k given. given) w.fits);
-        sends = sends-after t continues;
         logs = logs-after t continues;
         slots = slots-after t continues keeping;
         accepted = λ q x within. accepted-after t continues keeping q within x;
@@ -120,17 +115,17 @@ module _ {told : List ℕ} {m : Moment} {r : ℕ} (t : IsTurn told m r) (fills :
 
 -- ---- an event that brings an answer
 
-module _ {told : List ℕ} {m : Moment} {r : ℕ} (t : IsTurn told m r) (a : Answer) (sends : Option ℕ) where
+module _ {told : List ℕ} {m : Moment} {r : ℕ} (t : IsTurn told m r) (a : Answer) where
   open t use {number as n, line as o, so_far, is}
 
   abbrev ends : Bool → Bool → Event
-  ends committed fills = record { answer = Some a; commits = committed; fills = fills; doing = nothing; sends = sends }
+  ends committed fills = record { answer = Some a; commits = committed; fills = fills; doing = nothing }
 
   -- the answers with this one
   abbrev B : Answering
   B = answer_at (put_answer n a m.answers)
 
-  adds : AddsAnswer (answering m) n a B
+  adds : AddsAnswer (printed m) n a B
   adds = AddsAnswer-put m.answers n a
 
   -- another client's place stays
@@ -146,17 +141,16 @@ module _ {told : List ℕ} {m : Moment} {r : ℕ} (t : IsTurn told m r) (a : Ans
   ]
 
   -- what had an answer has one
-  still_answered : (i : ℕ) → IsSome (answering m i) → IsSome (B i)
+  still_answered : (i : ℕ) → IsSome (printed m i) → IsSome (B i)
   still_answered i given = elim (cases_eq i n) [
     | inl here ↦ ap (λ j. is_some (B j)) here ∙ ap is_some adds.added
     | inr other ↦ ap is_some (adds.others i other) ∙ given
   ]
 
-  -- what is of an earlier phase than a line with an answer is printed
-  phases-after : (committed fills : Bool) (i j : ℕ) → IsSome (B i) → IsSome (op_at m.job j) → phase m.job j < phase m.job i
-      → IsSome (printed (after t (ends committed fills)) j)
-  phases-after committed fills i j given there before = printed-after t (ends committed fills) still_answered j (elim (cases_eq i n) [
-    | inl here ↦ begun-answered m n j t.begun there (subst (λ l. phase m.job j < phase m.job l) here before)
+  phases-after : (i j : ℕ) → IsSome (B i) → IsSome (op_at m.job j) → phase m.job j < phase m.job i → IsSome (B j)
+  phases-after i j given there before = still_answered j (elim (cases_eq i n) [
+    | inl here ↦
+        begun-answered m n j t.begun there (subst (λ l. phase m.job j < phase m.job l) here before)
     | inr other ↦ so_far.phases i j (ap is_some (sym (adds.others i other)) ∙ given) there before
   ])
 
@@ -233,12 +227,11 @@ module _ {told : List ℕ} {m : Moment} {r : ℕ} (t : IsTurn told m r) (a : Ans
         clients = clients-after t e;
         places = places-after t e B (upto-own (stands t) B a adds) other_place;
         operations = operations-after;
-        phases = phases-after committed fills;
+        phases = phases-after;
         rising = IsRisingFrom-put_answer m.answers 0 n a (omega arith) so_far.rising;
         paths = paths-after committed;
         legal = legal-after committed k;
         under_way = under_way-after t e tt (other_goes_on committed fills);
-        sends = sends-after t e;
         logs = logs-after t e;
         slots = slots-after t e keeping;
         accepted = λ q x within. accepted-after t e keeping q within x;
@@ -247,19 +240,18 @@ module _ {told : List ℕ} {m : Moment} {r : ℕ} (t : IsTurn told m r) (a : Ans
 -- ---- a step
 
 after_event-legal : {told : List ℕ} {m : Moment} {r : ℕ} (t : IsTurn told m r) (answer : Option Answer) (committed fills : Bool)
-    (doing : Doing) (sends : Option ℕ)
-    → Measured t (record { answer = answer; commits = committed; fills = fills; doing = doing; sends = sends })
+    (doing : Doing) → Measured t (record { answer = answer; commits = committed; fills = fills; doing = doing })
     → IsLegalOutcome (coming t) t.line.op answer committed doing
-    → IsLegalMoment told (after t (record { answer = answer; commits = committed; fills = fills; doing = doing; sends = sends }))
-after_event-legal {told} t None committed fills doing sends measured legal =
-    let e : Bool → Event = λ b. record { answer = None; commits = b; fills = fills; doing = doing; sends = sends } in
-    let same : Measured t (e false) =
+    → IsLegalMoment told (after t (record { answer = answer; commits = committed; fills = fills; doing = doing }))
+after_event-legal {told} t None committed fills doing measured legal =
+    let same : Measured t (record { answer = None; commits = false; fills = fills; doing = doing }) =
     record { accepts = measured.accepts; room = measured.room; named = measured.named; falls = measured.falls } in
-    subst (λ b. IsLegalMoment told (after t (e b))) (sym legal.0) (unanswered-legal t fills doing sends same legal.1)
-after_event-legal {told} t (Some a) committed fills doing sends measured legal =
-    let e : Doing → Event = λ d. record { answer = Some a; commits = committed; fills = fills; doing = d; sends = sends } in
+    subst (λ b. IsLegalMoment told (after t (record { answer = None; commits = b; fills = fills; doing = doing }))) (sym legal.0)
+    (unanswered-legal t fills doing same legal.1)
+after_event-legal {told} t (Some a) committed fills doing measured legal =
+    let e : Doing → Event = λ d. record { answer = Some a; commits = committed; fills = fills; doing = d } in
     subst (λ d. IsLegalMoment told (after t (e d))) (sym legal.1)
-    (answered-legal t a sends committed fills (subst (λ d. Measured t (e d)) legal.1 measured) legal.0)
+    (answered-legal t a committed fills (subst (λ d. Measured t (e d)) legal.1 measured) legal.0)
 
 -- what its client is in the midst of, the line may show
 may_show : {told : List ℕ} {m : Moment} {r : ℕ} (t : IsTurn told m r) (d : Doing) → MayGoOn told m r d → MayShow (coming t) t.line.op d
@@ -272,24 +264,16 @@ may_show {told} {m} t (reading d) goes =
     let fits = subst (λ n. Fits told m.job (answering m) (journal m t.line.path) n t.line shows) line here in
     keeps shows fits.opened fits.version fits.answer (not_done t.line.op (now (coming t)).pending shows refl)
 
--- the event of the line that comes next keeps a moment legal
-turn-legal : {told : List ℕ} {m : Moment} (r : ℕ) → IsTurn told m r → IsLegalMoment told m → IsLegalMoment told (step m (record { client = r }))
-turn-legal {told} {m} r t so_far =
+-- the step of a client that is ready keeps a moment legal
+pub step-legal : {told : List ℕ} {m : Moment} (turn : Turn) → IsLegalMoment told m
+    → Contains (ready m) turn.client → IsLegalMoment told (step m turn)
+step-legal {told} {m} turn so_far has =
+    let t = IsTurn-from_ready turn.client so_far has in
     let e = event_at m t.number t.line in
     let doing = λ (q : ℕ). (client_of m q).doing in
-    let may = may_show t (doing r) (so_far.under_way r (within_clients t)) in
+    let may = may_show t (doing turn.client) (so_far.under_way turn.client (within_clients t)) in
     let own = subst (λ q. MayShow (coming t) t.line.op (doing q)) (sym t.rank) may in
     let fills = subst (λ q. IsMeasured m.job (now (coming t)) t.line.op (doing q) e) t.rank
     (event_of-measured m.job (now (coming t)) (doing t.line.rank) t.line.op) in
     subst (IsLegalMoment told) (sym (step-is t))
-    (after_event-legal t e.answer e.commits e.fills e.doing e.sends fills (event_of-legal (coming t) (doing t.line.rank) t.line.op own))
-
--- the step of a client that is ready keeps a moment legal
-pub step-legal : {told : List ℕ} {m : Moment} (turn : Turn) → IsLegalMoment told m
-    → Contains (ready m) turn.client → IsLegalMoment told (step m turn)
-step-legal {told} {m} turn so_far has = by (client_of m turn.client).sends refl where
-  by : (o : Option Broadcast) → (client_of m turn.client).sends ≡ o → IsLegalMoment told (step m turn)
-  by None quiet = turn-legal turn.client (IsTurn-from_quiet turn.client so_far has quiet) so_far
-  by (Some b) sends =
-      subst (IsLegalMoment told) (sym (ap (step_of m turn.client) sends))
-      (reach-legal so_far turn.client b (ready-within m turn.client has) sends)
+    (after_event-legal t e.answer e.commits e.fills e.doing fills (event_of-legal (coming t) (doing t.line.rank) t.line.op own))

@@ -1,18 +1,18 @@
 -- What an event does to slots, to pins and to how many events are left. It fills slots exactly where it accepts its line's bytes,
 -- and where they have room; a read that it leaves under way names what it named before, or what the file or its client's pending
--- writes bear now; and fewer events of its line are left, with those that tell the other servers of it.
+-- writes bear now; and fewer events of its line are left.
 use Rattle.fs_types.proofs.Common.{◌≡◌, ℕ, ◌≤◌, Bool, true, false, ◌||◌, length, Option, Some, None, refl, sym, ap, ◌∙◌, cond_both}
 use Rattle.fs_types.proofs.Common.{ltb-false, true≢false}
-use Rattle.fs_types.proofs.Common.{IsSome, List, take, drop, list_any, nat_lt, ◌+◌, ◌-◌, ◌<◌, arith, ltb-true}
+use Rattle.fs_types.proofs.Common.{List, take, drop, list_any, nat_lt, ◌+◌, ◌-◌, ◌<◌, arith, ltb-true}
 use Rattle.std.proofs.Math.Bool.{or-true}
 use Rattle.std.proofs.lemmas.List.{take-append-drop}
 use Rattle.std.proofs.lemmas.List.Folds.{list_any-append}
 use Rattle.fs_script.specs.Live.{is_of_piece}
-use Rattle.fs_script.specs.Vocabulary.{Answer, File, Job, Mark, Piece, Range, asked, bears, cells_of, brought, parts_of, was_accepted, shown, runs}
+use Rattle.fs_script.specs.Vocabulary.{Answer, File, Job, Mark, Piece, Range, bears, cells_of, brought, parts_of, was_accepted, shown, runs}
 use Rattle.fs_script.specs.Payload.{bytes_brought, write_of, data_bytes}
 use Rattle.fs_script.specs.Vocabulary.{LONGEST_FILE, has_any, marks_in, marks_put, range_of, view_of}
 use Rattle.core_machine.specs.Vocabulary.{Data, Op, Doing, Reading, nothing, reading, Event, PathNow, event_of, names, answered, if_open}
-use Rattle.core_machine.specs.Vocabulary.{most_events, others, tells, write_event}
+use Rattle.core_machine.specs.Vocabulary.{most_events, write_event}
 use Rattle.core_machine.specs.Vocabulary.{create_over, lookup_over, fetch_event, sync_over, trunc_over, laminate_over, unlink_over}
 use Rattle.core_machine.specs.Vocabulary.{write_where_free, write_at_front}
 use Rattle.core_machine.specs.Events.Open.{open_over}
@@ -27,43 +27,15 @@ abbrev pub need_of : ℕ → Op → ℕ
 need_of chunk op = parts_of chunk (length (bytes_brought (brought op)))
 
 -- the most events that a line has left, where its client is in the midst of this
-abbrev pub left_of_line : Job → Op → Doing → ℕ
-left_of_line s op nothing = most_events s op
-left_of_line s op (reading d) = length (runs d.marks) - d.fetched + 1
+abbrev pub left_of_line : Op → Doing → ℕ
+left_of_line op nothing = most_events op
+left_of_line op (reading d) = length (runs d.marks) - d.fetched + 1
 
--- who reads is in the midst of a read
-abbrev pub MayDo : Op → Doing → Type 0
-MayDo op nothing = Unit {0}
-MayDo op (reading d) = IsSome (asked op)
-
--- An answer ends the line, and with none its client goes on reading. Fewer events are left then, with so many that tell the other
--- servers of the line.
-abbrev pub Falls : Job → Op → Doing → Option Answer → Doing → ℕ → Type 0
-Falls s op d (Some a) after k = (after ≡ nothing) × (MayDo op d → k < left_of_line s op d)
-Falls s op d None nothing k = ⊥
-Falls s op d None (reading r) k = k + left_of_line s op (reading r) < left_of_line s op d
-
--- each operation has an event
-some_event : (s : Job) (op : Op) (d : Doing) → 0 < left_of_line s op d
-some_event s ops.Create nothing = omega arith
-some_event s ops.Open nothing = omega arith
-some_event s (ops.Write off text) nothing = omega arith
-some_event s ops.Sync nothing = omega arith
-some_event s (ops.Read off len own) nothing = omega arith
-some_event s ops.Size nothing = omega arith
-some_event s (ops.Trunc n) nothing = omega arith
-some_event s ops.Laminate nothing = omega arith
-some_event s ops.Unlink nothing = omega arith
-some_event s op (reading d) = omega arith
-
--- a lamination and an unlink have one more for each other server
-tells-laminate : (s : Job) (d : Doing) → MayDo ops.Laminate d → others s < left_of_line s ops.Laminate d
-tells-laminate s nothing may = omega arith
-tells-laminate s (reading d) may = absurd (true≢false (sym may))
-
-tells-unlink : (s : Job) (d : Doing) → MayDo ops.Unlink d → others s < left_of_line s ops.Unlink d
-tells-unlink s nothing may = omega arith
-tells-unlink s (reading d) may = absurd (true≢false (sym may))
+-- an answer ends the line; with none fewer events are left
+abbrev pub Falls : Op → Doing → Option Answer → Doing → Type 0
+Falls op d (Some a) after = after ≡ nothing
+Falls op d None nothing = ⊥
+Falls op d None (reading r) = left_of_line op (reading r) < left_of_line op d
 
 -- the file bears a piece now, or what is pending for the line's client does
 abbrev pub bears_now : Job → PathNow → Piece → Bool
@@ -74,24 +46,18 @@ pub record IsMeasured (s : Job) (w : PathNow) (op : Op) (d : Doing) (e : Event) 
   pub accepts : e.fills ≡ was_accepted e.answer
   pub room : e.fills ≡ true → need_of s.shape.chunk op ≤ w.free
   pub named : (x : Piece) → names e.doing x ≡ true → (names d x || bears_now s w x) ≡ true
-  pub falls : Falls s op d e.answer e.doing (tells s e.sends)
+  pub falls : Falls op d e.answer e.doing
 
 module _ (s : Job) (w : PathNow) (op : Op) (d : Doing) where
   -- it ends the line, and fills no slots
-  none_filled_for : (a : Answer) (committed : Bool) (told : Option ℕ) → was_accepted (Some a) ≡ false
-      → (MayDo op d → tells s told < left_of_line s op d)
-      → IsMeasured s w op d (record { answer = Some a; commits = committed; fills = false; doing = nothing; sends = told })
-  none_filled_for a committed told refused fewer = record {
+  none_filled : (a : Answer) (committed : Bool) → was_accepted (Some a) ≡ false
+      → IsMeasured s w op d (record { answer = Some a; commits = committed; fills = false; doing = nothing })
+  none_filled a committed refused = record {
     accepts = sym refused;
     room = λ fills. absurd (true≢false (sym fills));
     named = λ x named. absurd (true≢false (sym named));
-    falls = (refl, fewer);
+    falls = refl;
   }
-
-  -- and no other server is told of it
-  none_filled : (a : Answer) (committed : Bool) → was_accepted (Some a) ≡ false
-      → IsMeasured s w op d (record { answer = Some a; commits = committed; fills = false; doing = nothing; sends = None })
-  none_filled a committed refused = none_filled_for a committed None refused (λ _. some_event s op d)
 
   of_open : (e : Event) → IsMeasured s w op d e → IsMeasured s w op d (if_open w e)
   of_open e measured =
@@ -121,16 +87,14 @@ module _ (s : Job) (w : PathNow) (op : Op) (d : Doing) where
   of_trunc (Some f) = cond_both f.frozen _ _ (IsMeasured s w op d) (λ _. none_filled (answers.ReadOnly _) false refl)
       (λ _. none_filled (answers.Done _) true refl)
 
-  -- these tell all others
-  of_laminate : (MayDo op d → others s < left_of_line s op d) → (f : File ℕ) → IsMeasured s w op d (laminate_over w f)
-  of_laminate fewer None = none_filled (answers.NoEnt _) false refl
-  of_laminate fewer (Some f) =
-      cond_both f.frozen _ _ (IsMeasured s w op d) (λ _. none_filled (answers.ReadOnly _) false refl)
-      (λ _. none_filled_for (answers.Done _) true (Some (w.version + 1)) refl fewer)
+  of_laminate : (f : File ℕ) → IsMeasured s w op d (laminate_over w f)
+  of_laminate None = none_filled (answers.NoEnt _) false refl
+  of_laminate (Some f) = cond_both f.frozen _ _ (IsMeasured s w op d) (λ _. none_filled (answers.ReadOnly _) false refl)
+      (λ _. none_filled (answers.Done _) true refl)
 
-  of_unlink : (MayDo op d → others s < left_of_line s op d) → (f : File ℕ) → IsMeasured s w op d (unlink_over w f)
-  of_unlink fewer None = none_filled (answers.NoEnt _) false refl
-  of_unlink fewer (Some f) = none_filled_for (answers.Done _) true (Some (w.version + 1)) refl fewer
+  of_unlink : (f : File ℕ) → IsMeasured s w op d (unlink_over w f)
+  of_unlink None = none_filled (answers.NoEnt _) false refl
+  of_unlink (Some f) = none_filled (answers.Done _) true refl
 
   of_write_where_free : IsMeasured s w op d (write_where_free (need_of s.shape.chunk op) w)
   of_write_where_free = cond_both (nat_lt w.free (need_of s.shape.chunk op)) _ _ (IsMeasured s w op d)
@@ -139,7 +103,7 @@ module _ (s : Job) (w : PathNow) (op : Op) (d : Doing) where
         accepts = refl;
         room = λ _. ltb-false w.free (need_of s.shape.chunk op) enough;
         named = λ x named. absurd (true≢false (sym named));
-        falls = (refl, λ _. some_event s op d);
+        falls = refl;
       })
 
 of_write : (s : Job) (w : PathNow) (off : ℕ) (text : Data) (d : Doing)
@@ -200,7 +164,5 @@ event_of-measured s w nothing (ops.Read off len own) =
 event_of-measured s w (reading d) (ops.Read off len own) = of_fetch s w (ops.Read off len own) d
 event_of-measured s w d ops.Size = of_open s w ops.Size d (size_over w w.file) (of_size s w ops.Size d w.file)
 event_of-measured s w d (ops.Trunc n) = of_open s w (ops.Trunc n) d (trunc_over w w.file) (of_trunc s w (ops.Trunc n) d w.file)
-event_of-measured s w d ops.Laminate = of_open s w ops.Laminate d (laminate_over w w.file)
-    (of_laminate s w ops.Laminate d (tells-laminate s d) w.file)
-event_of-measured s w d ops.Unlink = of_open s w ops.Unlink d (unlink_over w w.file)
-    (of_unlink s w ops.Unlink d (tells-unlink s d) w.file)
+event_of-measured s w d ops.Laminate = of_open s w ops.Laminate d (laminate_over w w.file) (of_laminate s w ops.Laminate d w.file)
+event_of-measured s w d ops.Unlink = of_open s w ops.Unlink d (unlink_over w w.file) (of_unlink s w ops.Unlink d w.file)

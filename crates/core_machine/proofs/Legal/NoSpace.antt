@@ -8,8 +8,8 @@ use Rattle.fs_script.specs.Payload.{bytes_brought, write_of}
 use Rattle.fs_script.specs.Vocabulary.{File, Job, LONGEST_FILE, Mark, Range, Write, brought, has_any, parts_of, range_of, runs}
 use Rattle.fs_script.specs.Vocabulary.{marks_in, view_of}
 use Rattle.core_machine.specs.Vocabulary.{Data, Op, Doing, Reading, nothing, reading, Event, PathNow}
-use Rattle.core_machine.specs.Vocabulary.{event_of, answered, committed_as, committed_for_all, wrote_into, goes_on_reading, if_open, create_over}
-use Rattle.core_machine.specs.Vocabulary.{fetch_event, laminate_over, lookup_over, sync_over, to_show, trunc_over, unlink_over}
+use Rattle.core_machine.specs.Vocabulary.{event_of, answered, committed_as, wrote_into, goes_on_reading, if_open, create_over, lookup_over}
+use Rattle.core_machine.specs.Vocabulary.{fetch_event, laminate_over, sync_over, to_show, trunc_over, unlink_over}
 use Rattle.core_machine.specs.Vocabulary.{write_where_free, write_within, write_at_front}
 use Rattle.core_machine.specs.Events.Open.{open_over}
 use Rattle.core_machine.specs.Events.Size.{size_over}
@@ -83,7 +83,7 @@ module _ (w : PathNow) (needed left : ℕ) where
   laminate-never : (f : File ℕ) → IsRefused (laminate_over w f) → ⊥
   laminate-never None is = cc is
   laminate-never (Some f) is =
-      elim (by_case f.frozen (answered (answers.ReadOnly w.version)) (committed_for_all (w.version + 1)) _ is) [
+      elim (by_case f.frozen (answered (answers.ReadOnly w.version)) (committed_as (w.version + 1)) _ is) [
         | inl frozen ↦ cc frozen.1
         | inr free ↦ cc free.1
       ]

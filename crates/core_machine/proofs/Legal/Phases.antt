@@ -1,12 +1,12 @@
 -- Phases: when that of a line has begun, and that no line with an answer is of a later one.
-use Rattle.fs_types.proofs.Common.{◌≡◌, ℕ, ◌<◌, Bool, true, length, Some, IsSome, is_some, leb, true≢false, sym, ap, ◌∙◌, or_left, or_right}
+use Rattle.fs_types.proofs.Common.{◌≡◌, ℕ, ◌<◌, Bool, true, length, Some, IsSome, is_some, leb, true≢false, sym, ◌∙◌}
 use Rattle.fs_types.proofs.Common.{inl, inr, ◌||◌, range_with_len, or_cases, lt-leb, All-contains, All-weaker, filter_passes}
 use Rattle.fs_types.proofs.Common.{AllPass-from_list_all, list_all-from_AllPass}
 use Rattle.fs_script.specs.Vocabulary.{op_at, op_lines, phase}
 use Rattle.core_machine.specs.Vocabulary.{OpLine, Moment, printed, has_begun}
 use Rattle.fs_script.proofs.CallerLemmas.{some_of, op_at-within, Contains-passing}
 
--- line k lets the phase of line n begin: it was printed, or is of no earlier phase
+-- line k lets the phase of line n begin: it was answered, or is of no earlier phase
 abbrev pub lets_begin : Moment → ℕ → ℕ → Bool
 lets_begin m n k = is_some (printed m k) || leb (phase m.job n) (phase m.job k)
 
@@ -26,7 +26,7 @@ begun-each m n k begun is =
     let has = Contains-passing (λ i. is_some (op_at m.job i)) 2 (length m.job.lines) k is within.0 within.1 in
     All-contains (λ i. lets_begin m n i ≡ true) (op_lines m.job) k (AllPass-from_list_all (lets_begin m n) (op_lines m.job) begun) has
 
--- so each of an earlier phase was printed
+-- so each of an earlier phase has an answer
 pub begun-answered : (m : Moment) (n k : ℕ) → has_begun m n ≡ true → IsSome (op_at m.job k)
     → phase m.job k < phase m.job n → IsSome (printed m k)
 begun-answered m n k begun is before =
@@ -34,15 +34,3 @@ begun-answered m n k begun is before =
       | inl given ↦ given
       | inr later ↦ absurd (true≢false (sym later ∙ lt-leb (phase m.job n) (phase m.job k) before))
     ]
-
--- it stays so, where what was printed stays so
-pub has_begun-stays : (m x : Moment) (n : ℕ) → x.job ≡ m.job → ((k : ℕ) → IsSome (printed m k) → IsSome (printed x k))
-    → has_begun m n ≡ true → has_begun x n ≡ true
-has_begun-stays m x n same stays begun =
-    has_begun-from x n (λ k o op.
-    let is = ap (λ s. is_some (op_at s k)) (sym same) ∙ ap is_some op in
-    elim (or_cases (is_some (printed m k)) (leb (phase m.job n) (phase m.job k)) (begun-each m n k begun is)) [
-      | inl given ↦ or_left (is_some (printed x k)) (leb (phase x.job n) (phase x.job k)) (stays k given)
-      | inr later ↦
-          or_right (is_some (printed x k)) (leb (phase x.job n) (phase x.job k)) (ap (λ s. leb (phase s n) (phase s k)) same ∙ later)
-    ])

@@ -3,8 +3,8 @@ use Rattle.fs_types.proofs.Common.{◌≡◌, ℕ, false, List, [], ◌∷◌, O
 use Rattle.fs_types.proofs.Common.{refl, sym, ap, ◌∙◌, subst, inl, inr, ◌⊎◌, cases_eq, none-some}
 use Rattle.fs_types.specs.declared.answer.Answer.{Answer}
 use Rattle.fs_script.specs.Vocabulary.{Job, answer_at, op_at, put_answer}
-use Rattle.core_machine.specs.Vocabulary.{Broadcast, OpLine, Moment, Turn, answers_with, client_of, event_at, next_line, answering, ready}
-use Rattle.core_machine.specs.Vocabulary.{Reaches, step, step_at, step_line, step_of}
+use Rattle.core_machine.specs.Vocabulary.{OpLine, Moment, Turn, answers_with, client_of, event_at, next_line, printed, ready}
+use Rattle.core_machine.specs.Vocabulary.{Reaches, step, step_at, step_line}
 use Rattle.core_machine.specs.RunLaws.{WasGiven, AnswersWereGiven}
 use Rattle.fs_script.proofs.CallerLemmas.{AddsAnswer-put, program-op}
 
@@ -18,15 +18,11 @@ unspent_at : (m : Moment) (r : ℕ) (n : Option ℕ) → m.spent ≡ false → (
 unspent_at m r None unspent = unspent
 unspent_at m r (Some n) unspent = unspent_line m r n (op_at m.job n) unspent
 
-unspent_of : (m : Moment) (r : ℕ) (b : Option Broadcast) → m.spent ≡ false → (step_of m r b).spent ≡ false
-unspent_of m r None unspent = unspent_at m r (next_line m r) unspent
-unspent_of m r (Some b) unspent = unspent
-
 -- a run of events never runs out of memory
 pub Reaches-unspent : (m n : Moment) (turns : List Turn) → Reaches m turns n → m.spent ≡ false → n.spent ≡ false
 Reaches-unspent m n [] run unspent = ap (λ (k : Moment). k.spent) (sym run) ∙ unspent
-Reaches-unspent m n (t ∷ turns) run unspent = Reaches-unspent (step m t) n turns run.1
-    (unspent_of m t.client (client_of m t.client).sends unspent)
+Reaches-unspent m n (t ∷ turns) run unspent = Reaches-unspent (step m t) n turns run.1 (unspent_at m t.client (next_line m t.client)
+    unspent)
 
 -- ---- the job
 
@@ -38,21 +34,17 @@ job_after : (m : Moment) (r : ℕ) (n : Option ℕ) → (step_at m r n).job ≡ 
 job_after m r None = refl
 job_after m r (Some n) = job_after_line m r n (op_at m.job n)
 
-job_after_step : (m : Moment) (r : ℕ) (b : Option Broadcast) → (step_of m r b).job ≡ m.job
-job_after_step m r None = job_after m r (next_line m r)
-job_after_step m r (Some b) = refl
-
 -- it is of one job
 pub Reaches-job : (m n : Moment) (turns : List Turn) → Reaches m turns n → n.job ≡ m.job
 Reaches-job m n [] run = ap (λ (k : Moment). k.job) (sym run)
-Reaches-job m n (t ∷ turns) run = Reaches-job (step m t) n turns run.1 ∙ job_after_step m t.client (client_of m t.client).sends
+Reaches-job m n (t ∷ turns) run = Reaches-job (step m t) n turns run.1 ∙ job_after m t.client (next_line m t.client)
 
 -- ---- answers
 
 module _ (s : Job) (k : ℕ) (a : Answer) where
   -- an answer that stands after the event of client r's line j stood before, or came with it
   after_event-gives : (m : Moment) (r j : ℕ) (o : OpLine) (b : Option Answer) → answer_at (answers_with j b m.answers) k ≡ Some a
-      → (answering m k ≡ Some a) ⊎ (k ≡ j) × (b ≡ Some a)
+      → (printed m k ≡ Some a) ⊎ (k ≡ j) × (b ≡ Some a)
   after_event-gives m r j o None is = inl is
   after_event-gives m r j o (Some b) is =
       let adds = AddsAnswer-put m.answers j b in
@@ -63,14 +55,14 @@ module _ (s : Job) (k : ℕ) (a : Answer) where
 
   -- so the turn of a client gave it, or it stood before
   turn-gives : (m : Moment) (t : Turn) (turns : List Turn) → m.job ≡ s → Contains (ready m) t.client
-      → (client_of m t.client).sends ≡ None → (x : Option ℕ) → next_line m t.client ≡ x → answering (step_at m t.client x) k ≡ Some a
-      → (answering m k ≡ Some a) ⊎ WasGiven s m (t ∷ turns) k a
-  turn-gives m t turns job waits quiet None next is = inl is
-  turn-gives m t turns job waits quiet (Some j) next is =
+      → (x : Option ℕ) → next_line m t.client ≡ x → printed (step_at m t.client x) k ≡ Some a
+      → (printed m k ≡ Some a) ⊎ WasGiven s m (t ∷ turns) k a
+  turn-gives m t turns job waits None next is = inl is
+  turn-gives m t turns job waits (Some j) next is =
       let op = program-op m.job t.client (client_of m t.client).place j next in
       let o = op.0 in
       let e = event_at m j o in
-      let there = ap (λ x. answering (step_line m t.client j x) k) (sym op.1) ∙ is in
+      let there = ap (λ x. printed (step_line m t.client j x) k) (sym op.1) ∙ is in
       elim (after_event-gives m t.client j o e.answer there) [
         | inl before ↦ inl before
         | inr given ↦
@@ -83,19 +75,11 @@ module _ (s : Job) (k : ℕ) (a : Answer) where
               all = ap (λ r. record { client = r } ∷ turns) (sym op.2);
               reaches = refl;
               waits = subst (λ r. Contains (ready m) r) (sym op.2) waits;
-              quiet = ap (λ r. (client_of m r).sends) op.2 ∙ quiet;
               next = ap (next_line m) op.2 ∙ next ∙ ap Some line;
               is = ap (λ (q : Job). op_at q k) (sym job) ∙ ap (op_at m.job) given.0 ∙ op.1;
               gives = ap (λ i. (event_at m i o).answer) given.0 ∙ given.1;
             })
       ]
-
-  -- no answer comes as a server is told
-  step-gives : (m : Moment) (t : Turn) (turns : List Turn) → m.job ≡ s → Contains (ready m) t.client
-      → (b : Option Broadcast) → (client_of m t.client).sends ≡ b → answering (step_of m t.client b) k ≡ Some a
-      → (answering m k ≡ Some a) ⊎ WasGiven s m (t ∷ turns) k a
-  step-gives m t turns job waits None quiet is = turn-gives m t turns job waits quiet (next_line m t.client) refl is
-  step-gives m t turns job waits (Some b) sends is = inl is
 
   -- one turn earlier
   earlier : (m : Moment) (t : Turn) (turns : List Turn) → Contains (ready m) t.client → WasGiven s (step m t) turns k a
@@ -108,19 +92,18 @@ module _ (s : Job) (k : ℕ) (a : Answer) where
     all = ap (λ ts. t ∷ ts) given.all;
     reaches = (waits, given.reaches);
     waits = given.waits;
-    quiet = given.quiet;
     next = given.next;
     is = given.is;
     gives = given.gives;
   }
 
   -- an answer that stands after some turns stood before them, or one of them gave it
-  turns-give : (m n : Moment) (turns : List Turn) → m.job ≡ s → Reaches m turns n → answering n k ≡ Some a
-      → (answering m k ≡ Some a) ⊎ WasGiven s m turns k a
-  turns-give m n [] job run is = inl (ap (λ (x : Moment). answering x k) run ∙ is)
+  turns-give : (m n : Moment) (turns : List Turn) → m.job ≡ s → Reaches m turns n → printed n k ≡ Some a
+      → (printed m k ≡ Some a) ⊎ WasGiven s m turns k a
+  turns-give m n [] job run is = inl (ap (λ (x : Moment). printed x k) run ∙ is)
   turns-give m n (t ∷ turns) job run is =
-      elim (turns-give (step m t) n turns (job_after_step m t.client (client_of m t.client).sends ∙ job) run.1 is) [
-        | inl before ↦ step-gives m t turns job run.0 (client_of m t.client).sends refl before
+      elim (turns-give (step m t) n turns (job_after m t.client (next_line m t.client) ∙ job) run.1 is) [
+        | inl before ↦ turn-gives m t turns job run.0 (next_line m t.client) refl before
         | inr given ↦ inr (earlier m t turns run.0 given)
       ]
 

@@ -7,8 +7,9 @@ use Rattle.core_machine.specs.Vocabulary.{Moment, journal, IsFirst, report_of, T
 use Rattle.core_machine.specs.Vocabulary.{OpLine, census, client_of, held_pieces}
 use Rattle.core_machine.specs.RunLaws.{RunsAreLegal, LogsHoldExactly, FreeIsWhatIsLeft, HeldIsExact}
 use Rattle.core_machine.specs.RunLaws.{NoSpaceIsExact, seen_by}
-use Rattle.core_machine.proofs.Legal.Reached.{Reaches-job, Reaches-unspent}
+use Rattle.core_machine.proofs.Legal.Reached.{Reaches-unspent}
 use Rattle.core_machine.proofs.Legal.NoSpace.{asks-from, refused-from}
+use Rattle.core_machine.proofs.Legal.Turns.{IsTurn-from_ready, step-is}
 use Rattle.core_machine.proofs.Legal.LegalSteps.{step-legal}
 use Rattle.core_machine.proofs.Legal.First.{first-legal}
 use Rattle.core_machine.proofs.Legal.Census.{held-and-free}
@@ -16,10 +17,14 @@ use Rattle.core_machine.proofs.Legal.Ends.{report-legal, held-exact}
 
 -- ---- the run
 
--- it keeps a legal moment legal
-run-legal : {told : List ℕ} (m n : Moment) (turns : List Turn) → IsLegalMoment told m → Reaches m turns n → IsLegalMoment told n
-run-legal {told} m n [] so_far is = subst (IsLegalMoment told) is so_far
-run-legal {told} m n (turn ∷ turns) so_far run = run-legal (step m turn) n turns (step-legal turn so_far run.0) run.1
+-- it keeps the job, and a legal moment legal
+run-legal : {told : List ℕ} (m n : Moment) (turns : List Turn) → IsLegalMoment told m
+    → Reaches m turns n → (n.job ≡ m.job) × IsLegalMoment told n
+run-legal {told} m n [] so_far is = (ap (λ x. x.job) (sym is), subst (IsLegalMoment told) is so_far)
+run-legal {told} m n (turn ∷ turns) so_far run =
+    let first = step-is (IsTurn-from_ready turn.client so_far run.0) in
+    let rest = run-legal (step m turn) n turns (step-legal turn so_far run.0) run.1 in
+    (rest.0 ∙ ap (λ x. x.job) first, rest.1)
 
 -- so each moment of a run of a job that can be run is legal, and is of that job
 module _ {s : Job} {m : Moment} (n : Moment) (turns : List Turn) (can : CanRun s) (first : IsFirst s m) (run : Reaches m turns n) where
@@ -27,10 +32,10 @@ module _ {s : Job} {m : Moment} (n : Moment) (turns : List Turn) (can : CanRun s
   begins told = first-legal (subst CanRun (sym first.job) can) (subst (λ j. IsFirst j m) (sym first.job) first) told
 
   pub of_job : n.job ≡ s
-  of_job = Reaches-job m n turns run ∙ first.job
+  of_job = (run-legal m n turns (begins []) run).0 ∙ first.job
 
   pub reached-legal : (told : List ℕ) → IsLegalMoment told n
-  reached-legal told = run-legal m n turns (begins told) run
+  reached-legal told = (run-legal m n turns (begins told) run).1
 
 -- at none did memory run out
 going : {s : Job} {m : Moment} (n : Moment) (turns : List Turn) → IsFirst s m → Reaches m turns n → n.spent ≡ false

@@ -1,20 +1,21 @@
 -- A client's turn: the line that comes next, and what is known as it comes.
-use Rattle.fs_types.proofs.Common.{◌≡◌, ℕ, ◌+◌, ◌≤◌, ◌<◌, Bool, true, false, ◌&&◌, ◌||◌, cond, nat_lt, List, [], length, list_any}
-use Rattle.fs_types.proofs.Common.{filter, range_with_len, Option, Some, None, IsSome, is_some, Contains, All, true≢false, refl, sym, ap, ◌∙◌}
-use Rattle.fs_types.proofs.Common.{subst, inl, inr, arith, cases_lt, lt-ltb, and_from, same_Some, All-contains, All-filter, filter_passes}
-use Rattle.fs_types.proofs.Common.{length-range_with_len, get_or-range_with_len}
-use Rattle.std.proofs.lemmas.List.Elements.{All-from_get_or}
+use Rattle.fs_types.proofs.Common.{common_steps, ◌≡◌, ℕ, ◌≤◌, ◌<◌, true, List, Option, Some, None, IsSome, is_some, Contains, true≢false}
+use Rattle.fs_types.proofs.Common.{refl, sym, ap, ◌∙◌, subst, inl, inr, arith, cases_lt, All-contains, filter_passes, same_Some}
+use Rattle.fs_types.proofs.Common.{◌+◌, ◌&&◌, length, list_any, nat_lt, lt-ltb, and_from}
 use Rattle.fs_types.specs.Fragments.{piece_eq}
 use Rattle.fs_script.specs.Vocabulary.{Answer, Piece, op_at, phase, rank_in, ComesNext, was_accepted, accepted_before, pieces_by}
-use Rattle.core_machine.specs.Vocabulary.{OpLine, Moment, answering, client_of, journal, log_of, empty_slots, has_begun, is_ready, may_come}
+use Rattle.core_machine.specs.Vocabulary.{OpLine, Moment, printed, answering, client_of, journal, log_of, empty_slots, has_begun, may_come}
 use Rattle.core_machine.specs.Vocabulary.{next_line, ready}
-use Rattle.core_machine.specs.Vocabulary.{after_event, event_at, step_line, step_at, step_of, step, IsAnsweredUpTo, IsLegalMoment}
+use Rattle.core_machine.specs.Vocabulary.{after_event, event_at, step_line, step_at, step, IsAnsweredUpTo, IsLegalMoment}
 use Rattle.fs_script.proofs.CallerLemmas.{some_of, AllByRecursion-from_get, answered-in_journal, program-op, IsPartOf-from_pieces}
 use Rattle.fs_script.proofs.CallerLemmas.{any_from_Contains, distinct-le-accepted}
 use Rattle.core_machine.proofs.Places.{StandsNext, unanswered, before}
 use Rattle.core_machine.proofs.Legal.Event.{NextLine}
-use Rattle.core_machine.proofs.Legal.Sends.{counted-printed}
 use Rattle.core_machine.proofs.Legal.Logs.{Contains-at, pieces_of_log, held_and_free, slot-of_piece, IsDistinct-pieces_of_log}
+
+-- no line counts before it is printed
+printed-counted : (m : Moment) (n : ℕ) → IsSome (answering m n) → IsSome (printed m n)
+printed-counted m n counts = counts
 
 -- ---- pieces of a client's lines
 
@@ -29,8 +30,7 @@ answered-accepted (Some b) h = (b, refl)
 
 -- ---- the line that comes next
 
--- at a moment of a legal run it is client r's turn: this line comes next, its phase has begun, and no server is left to be told of
--- the line before
+-- at a moment of a legal run it is client r's turn: this line comes next, and its phase has begun
 pub record IsTurn (told : List ℕ) (m : Moment) (r : ℕ) : Type 0 where
   pub number : ℕ
   pub line : OpLine
@@ -39,47 +39,18 @@ pub record IsTurn (told : List ℕ) (m : Moment) (r : ℕ) : Type 0 where
   pub is : op_at m.job number ≡ Some line
   pub rank : line.rank ≡ r
   pub begun : has_begun m number ≡ true
-  pub quiet : (client_of m r).sends ≡ None
 
--- a client that is ready has an event left
-ready-passes : (m : Moment) (r : ℕ) → Contains (ready m) r → is_ready m r ≡ true
-ready-passes m r has = by m.spent has where
-  clients : List ℕ
-  clients = range_with_len 0 m.job.shape.clients
-
-  by : (b : Bool) → Contains (cond b [] (filter (is_ready m) clients)) r → is_ready m r ≡ true
-  by true none = absurd (omega (arith, none.1))
-  by false found = All-contains (λ i. is_ready m i ≡ true) (filter (is_ready m) clients) r (filter_passes (is_ready m) clients) found
-
--- and is one that the shape counts
-pub ready-within : (m : Moment) (r : ℕ) → Contains (ready m) r → r < m.job.shape.clients
-ready-within m r has = by m.spent has where
-  clients : List ℕ
-  clients = range_with_len 0 m.job.shape.clients
-
-  each : All (λ i. i < m.job.shape.clients) clients
-  each = All-from_get_or (λ i. i < m.job.shape.clients) clients 0 (λ i below.
-      let size = length-range_with_len 0 m.job.shape.clients in
-      let is = get_or-range_with_len 0 m.job.shape.clients i 0 (omega arith) in
-      omega (arith, is, size, below))
-
-  by : (b : Bool) → Contains (cond b [] (filter (is_ready m) clients)) r → r < m.job.shape.clients
-  by true none = absurd (omega (arith, none.1))
-  by false found =
-      All-contains (λ i. i < m.job.shape.clients) (filter (is_ready m) clients) r
-      (All-filter (is_ready m) (λ i. i < m.job.shape.clients) clients each) found
+ready-may_come : (m : Moment) (r : ℕ) → Contains (ready m) r → may_come m (next_line m r) ≡ true
+ready-may_come m r has = grind (arith, common_steps, All-contains, filter_passes)
 
 line-of : (m : Moment) (x : Option ℕ) → may_come m x ≡ true → (n : ℕ) × (x ≡ Some n) × (has_begun m n ≡ true)
 line-of m None h = absurd (true≢false (sym h))
 line-of m (Some n) h = (n, refl, h)
 
--- a client that is ready and has no server left to tell has a turn
-pub IsTurn-from_quiet : {told : List ℕ} {m : Moment} (r : ℕ) → IsLegalMoment told m → Contains (ready m) r → (client_of m r).sends ≡ None
-    → IsTurn told m r
-IsTurn-from_quiet {m} r so_far has quiet =
-    let comes : may_come m (next_line m r) ≡ true =
-    sym (ap (λ o. is_some o || may_come m (next_line m r)) quiet) ∙ ready-passes m r has in
-    let next = line-of m (next_line m r) comes in
+-- a client that is ready has a turn
+pub IsTurn-from_ready : {told : List ℕ} {m : Moment} (r : ℕ) → IsLegalMoment told m → Contains (ready m) r → IsTurn told m r
+IsTurn-from_ready {m} r so_far has =
+    let next = line-of m (next_line m r) (ready-may_come m r has) in
     let op = program-op m.job r (client_of m r).place next.0 next.1 in
     record {
       number = next.0;
@@ -89,32 +60,31 @@ IsTurn-from_quiet {m} r so_far has quiet =
       is = op.1;
       rank = op.2;
       begun = next.2;
-      quiet = quiet;
     }
 
 module _ {told : List ℕ} {m : Moment} {r : ℕ} (t : IsTurn told m r) where
-  open t use {number as n, line as o, so_far, next, is, rank, quiet}
+  open t use {number as n, line as o, so_far, next, is, rank}
 
   -- its step is the event of that line
   pub step-is : step m (record { client = r }) ≡ after_event m r n o (event_at m n o)
-  step-is = ap (step_of m r) quiet ∙ ap (step_at m r) next ∙ ap (step_line m r n) is
+  step-is = ap (step_at m r) next ∙ ap (step_line m r n) is
 
   -- its client is one that the shape counts
   pub within_clients : r < m.job.shape.clients
   within_clients = subst (λ i. i < m.job.shape.clients) rank (so_far.job.clients n o is)
 
   -- of the client's program the lines before that one have answers, and no others
-  pub answered_up_to : IsAnsweredUpTo m.job (answering m) r (client_of m r).place
+  pub answered_up_to : IsAnsweredUpTo m.job (printed m) r (client_of m r).place
   answered_up_to = so_far.places r within_clients
 
-  pub stands : StandsNext m.job (answering m) r (client_of m r).place n
+  pub stands : StandsNext m.job (printed m) r (client_of m r).place n
   stands = record { upto = answered_up_to; here = next }
 
   pub comes_next : ComesNext m.job (answering m) n
   comes_next = record {
     fresh = unanswered stands;
     last = λ k a counts same.
-        let given = ap is_some counts in
+        let given = printed-counted m k (ap is_some counts) in
         let op = some_of (op_at m.job k) (so_far.operations k given) in
         let of_client = sym (ap rank_in op.1) ∙ same ∙ ap rank_in is ∙ ap Some rank in
         before stands k op.0 given op.1 (same_Some op.0.rank r of_client);
@@ -124,7 +94,7 @@ module _ {told : List ℕ} {m : Moment} {r : ℕ} (t : IsTurn told m r) where
   pub no_later_phase : (k : ℕ) → IsSome (answering m k) → phase m.job k ≤ phase m.job n
   no_later_phase k counts = elim (cases_lt (phase m.job n) (phase m.job k)) [
     | inl before ↦
-        let given = counted-printed m n (so_far.phases k n counts (ap is_some is) before) in
+        let given = so_far.phases k n (printed-counted m k counts) (ap is_some is) before in
         absurd (true≢false (sym given ∙ ap is_some (unanswered stands)))
     | inr other ↦ other
   ]

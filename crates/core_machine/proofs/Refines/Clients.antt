@@ -4,7 +4,7 @@ use Rattle.fs_types.proofs.Common.{is_some, ◌||◌, ◌&&◌, ◌==◌, sym, a
 use Rattle.fs_types.proofs.Common.{inl, inr, or_cases, and_parts, eqb-true}
 use Rattle.fs_script.specs.Vocabulary.{Answer, Job, Piece, own_at, need, version_of, Answering, after_answer, one_more, over_answers, marks_at, opens}
 use Rattle.fs_script.specs.Vocabulary.{at_least, past_lines, AddsAnswer}
-use Rattle.core_machine.specs.Vocabulary.{Op, OpLine, OwnedPath, ClientPath, Event, Task, Idle, Read, Send, known_of, AreSound, file_hold, pending_hold}
+use Rattle.core_machine.specs.Vocabulary.{Op, OpLine, OwnedPath, ClientPath, Event, Task, Idle, Read, known_of, AreSound, file_hold, pending_hold}
 use Rattle.core_machine.specs.Vocabulary.{Follows, Knows, KnowsLookedUp, LookedUpWithin}
 use Rattle.core_machine.specs.Vocabulary.{StandsForOwner, StandsForClient}
 use Rattle.fs_script.proofs.CallerLemmas.{over_answers-agree, AgreeBefore-next}
@@ -104,6 +104,5 @@ StandsForClient-own {s} {A} {B} {now} {n} {o} {t} {e} {a} {x} {y} {k} {l} h own 
       by : (u : Task) → LookedUpWithin u (length x.path.journal) → KnowsLookedUp (λ v. known_of (marks_at s A x.path.journal v)) u
           → KnowsLookedUp (λ v. known_of (marks_at s B y.path.journal v)) u
       by Idle le is = tt
-      by (Send d) le is = tt
       by (Read d) le is = is ∙ ap known_of (marks-grown x.path.journal d.version e.commits h.adds h.next owned.answered le
           ∙ ap (λ (j : List ℕ). marks_at s B j d.version) (sym follows.journal))

@@ -14,7 +14,7 @@ use Rattle.core_machine.specs.Logs.{fresh_log, fresh_logs}
 use Rattle.core_machine.specs.PathStates.{pending_after}
 use Rattle.core_machine.specs.Vocabulary.{OwnedPath, ClientPath, PathState, Task, Idle, fresh_owned, IsFreshClient, IsFreshPath}
 use Rattle.core_machine.specs.Vocabulary.{CanRun, IsFirst, Places}
-use Rattle.core_machine.specs.Vocabulary.{clients_of, done_lines, file_hold, fresh_client, holds_of, moment_of}
+use Rattle.core_machine.specs.Vocabulary.{clients_of, file_hold, fresh_client, holds_of, moment_of}
 use Rattle.core_machine.specs.Vocabulary.{pending_lines, piece_in, pieces_in, slot_in}
 use Rattle.core_machine.specs.Vocabulary.{Holds, IsLogOf, Stands, StandsForOwner, StandsForClient, StandsForLogs, StandsForLookUp, StandsForTask}
 use Rattle.core_machine.proofs.HeldPieces.{pending-none}
@@ -149,13 +149,9 @@ Holds-first {s} {paths} states answers turns tasks logs ds job named sized fresh
   tasked = ap length idle ∙ length-replicate s.shape.clients Idle;
   few = few;
   room = room;
-  upto = λ r t there k n at.
-      let within : r < s.shape.clients = (let lt = slice_get_within tasks r t there in
-      omega (arith, lt, ap length idle, length-replicate s.shape.clients Idle)) in
-      let is = idle-at s.shape.clients r t (ap (λ ts. slice_get ts r) (sym idle) ∙ there) in
+  upto = λ r within k n at.
       let start = ap (λ ps. slice_index ps r) places ∙ get_or-replicate s.shape.clients r 0 0 within in
-      let done : done_lines (slice_index turns.places r) t ≡ slice_index turns.places r = ap (done_lines (slice_index turns.places r)) is in
-      ap is_some (ap (λ xs. answer_at xs n) empty) ∙ sym (le-ltb k (done_lines (slice_index turns.places r) t) (omega (arith, start, done)));
+      ap is_some (ap (λ xs. answer_at xs n) empty) ∙ sym (le-ltb k (slice_index turns.places r) (omega (arith, start)));
   past = λ m given. absurd (true≢false (sym given ∙ ap is_some (ap (λ xs. answer_at xs m) empty)));
   each = λ i p x at there. subst (λ xs. Stands s (answer_at xs) turns.phase p x) (sym empty) (path-fresh s turns.phase p (fresh-path i x there));
   path_holds = λ i x there.
@@ -169,7 +165,7 @@ Holds-first {s} {paths} states answers turns tasks logs ds job named sized fresh
   tasks_stand = λ r t at.
       let is = idle-at s.shape.clients r t (ap (λ ts. slice_get ts r) (sym idle) ∙ at) in
       subst (StandsForTask s turns logs r) (sym is)
-      (record { task = tt; pins = λ q h held. absurd (none-some h held); line = λ n o next op. tt; sends = tt });
+      (record { task = tt; pins = λ q h held. absurd (none-some h held); line = λ n o next op. tt });
   looked_up = λ r t n i o x at next op place there.
       let is = idle-at s.shape.clients r t (ap (λ ts. slice_get ts r) (sym idle) ∙ at) in
       subst (StandsForLookUp s (answer_at answers.list) x.owned) (sym is) (record { within = tt; known = tt });

@@ -31,12 +31,6 @@ goes-kept {turns} r n held has next =
     subst (λ j. GoesNow j turns r n) held.same
     (record { within = next_in-within turns r n clients next; next = next; now = ap (phase turns.job) (sym same) ∙ goes.1.of_phase })
 
--- such a client is one of the job's
-pub going-within : {s : Job} {paths : List (List ℕ)} {states : List PathState} {answers : Given} {turns : Places} {tasks : List Task}
-    {logs : List Log} (r : ℕ) → Holds s paths states answers turns tasks logs → Contains (going turns) r → r < s.shape.clients
-going-within {turns = turns} r held has =
-    let goes = Goes-from_Contains turns r has in (goes-kept r goes.0 held has goes.1.next).within
-
 -- a client that is ready goes, and has a next line; memory didn't run out
 pub ready-going : (s : Job) (paths : List (List ℕ)) (states : List PathState) (answers : Given) {turns : Places} (tasks : List Task)
     (logs : List Log) (spent : Bool) (r : ℕ) → (spent ≡ false → Holds s paths states answers turns tasks logs) → IsInPhase turns

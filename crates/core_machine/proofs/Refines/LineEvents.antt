@@ -1,26 +1,24 @@
 -- One event of a client's next line: what is kept for its path and by the client is sound for it, and all that is kept after it
 -- holds, and stands for the machine's next moment.
-use Rattle.fs_types.proofs.Common.{get_or, get_or_from_slice_get, is_some, not, slice_get_within, ◌≡◌, ◌≢◌, ℕ, false, List, [], ◌∷◌, ◌++◌, set, slice_get, slice_index, Option, Some, None, refl}
+use Rattle.fs_types.proofs.Common.{◌≡◌, ◌≢◌, ℕ, false, List, [], ◌∷◌, ◌++◌, set, slice_get, slice_index, Option, Some, None, refl}
 use Rattle.fs_types.proofs.Common.{sym, ap, ◌∙◌, subst, arith, same_Some, slice_get-get_or, bytes_eq, bytes_eq-Decides}
 use Rattle.fs_types.proofs.Common.{if◌then◌else◌, inl, inr, cases_Bool, true≢false}
 use Rattle.slot_plain.specs.Log.{Log}
 use Rattle.fs_script.specs.Vocabulary.{Answer, Given, Job, after_answer, answer_at, commits, op_at, own_op}
 use Rattle.fs_script.proofs.CallerLemmas.{AddsAnswer-put, other_bytes, over_answers-agree, program-op, same_bytes}
-use Rattle.fs_script.proofs.CallerLemmas.{slice_get-map_some, slice_get-set_same, slice_get-some}
+use Rattle.fs_script.proofs.CallerLemmas.{slice_get-map_some, slice_get-some}
 use Rattle.core_machine.specs.Follows.{FollowsAt, IsSoundAt}
 use Rattle.core_machine.specs.Kept.{owned_of}
 use Rattle.core_machine.specs.PathStates.{AreKept, AreToldBut, own_parts, pending_after, state_of, states_in}
 use Rattle.core_machine.specs.Vocabulary.{Book, FollowsBy, Holds, KeptBoard, KeptClient, OpLine, OwnedPath, PathState, Places, PlainHold, Task}
-use Rattle.core_machine.specs.Standing.{SendsNothing}
-use Rattle.core_machine.specs.Vocabulary.{Event, IsAnsweredUpTo, sends_of, turns_then, answers_with, doing_of, free_in, kept_now, lines_then, moment_of, noted_now, own_of, path_at, step, told_in}
+use Rattle.core_machine.specs.Vocabulary.{Event, answers_with, doing_of, free_in, kept_now, lines_then, moment_of, noted_now, own_of, path_at, step, told_in}
 use Rattle.core_machine.proofs.Places.{StandsNext}
 use Rattle.core_machine.proofs.Refines.Clients.{IsOwn, over_answers-own}
 use Rattle.core_machine.proofs.Refines.Goes.{GoesNow}
 use Rattle.core_machine.proofs.Refines.NextAnswers.{AgreeBefore-elsewhere}
 use Rattle.core_machine.proofs.Refines.Sound.{sound-for}
 use Rattle.core_machine.proofs.Refines.StatesOfPaths.{own-elsewhere, parts-at, parts-same, parts-set, states-set}
-use Rattle.core_machine.proofs.Refines.DoneLines.{done-quiet, is_over}
-use Rattle.core_machine.proofs.Refines.Stepped.{Stepped, own-next, own_op-other, states_then}
+use Rattle.core_machine.proofs.Refines.Stepped.{Stepped, own-next, own_op-other, states_then, turns_with}
 use Rattle.core_machine.proofs.Refines.Steps.{Holds-after, paths-after, step-is}
 use Rattle.core_machine.proofs.Refines.Told.{told-ended, told-same}
 use Rattle.core_machine.proofs.EventsFollow.{noted-kept}
@@ -28,7 +26,7 @@ use Rattle.core_machine.proofs.QuietOperations.{commits-nothing}
 
 -- ---- the line
 
--- the next line of client r, which goes, and has no server left to tell of its last one
+-- the next line of client r, which goes
 pub record NextLine (s : Job) (paths : List (List ℕ)) (books : List (Book PlainHold)) (board : KeptBoard) (clients : List KeptClient)
     (answers : Given) (turns : Places) (tasks : List Task) (logs : List Log) (r : ℕ) : Type 0 where
   pub kept : AreKept s books clients
@@ -36,7 +34,6 @@ pub record NextLine (s : Job) (paths : List (List ℕ)) (books : List (Book Plai
   pub number : ℕ
   pub line : OpLine
   pub goes : GoesNow s turns r number
-  pub quiet : SendsNothing tasks r
   pub is : op_at s number ≡ Some line
 
 module _ {s : Job} {paths : List (List ℕ)} {books : List (Book PlainHold)} {board : KeptBoard} {clients : List KeptClient} {answers : Given}
@@ -71,19 +68,8 @@ module _ {s : Job} {paths : List (List ℕ)} {books : List (Book PlainHold)} {bo
         task = task.0;
         midst = task.1;
         sound = sound-for t.held r t.number t.line place.0 (state_was p) (own_of c.0 p (lines r p)) task.0 within t.goes.next t.is place.1
-            (slice_get-map_some state_was paths place.0 p place.1) (parts-at (λ k. lines k p) p clients r c.0 c.1) task.1
-            (t.quiet task.0 task.1);
+            (slice_get-map_some state_was paths place.0 p place.1) (parts-at (λ k. lines k p) p clients r c.0 c.1) task.1;
       })
-
-  stands-here : StandsNext s (answer_at answers.list) r (slice_index turns.places r) t.number
-  stands-here =
-      let within = t.goes.within in
-      let task = slice_get-some tasks r (let many = t.held.tasked in omega (arith, many, within)) in
-      record {
-        upto = subst (IsAnsweredUpTo s (answer_at answers.list) r)
-            (done-quiet (slice_index turns.places r) task.0 (t.quiet task.0 task.1)) (t.held.upto r task.0 task.1);
-        here = t.goes.next;
-      }
 
   -- ---- the lines that are pending once it had this answer, or none
 
@@ -93,7 +79,9 @@ module _ {s : Job} {paths : List (List ℕ)} {books : List (Book PlainHold)} {bo
   lines-own : (b : Option Answer) → lines_with b r t.line.path ≡ lines_then t.line.op t.number (lines r t.line.path) b
   lines-own None = refl
   lines-own (Some a) =
-      let own = subst (λ i. IsOwn s (answer_at answers.list) i t.line.path t.number t.line) line-rank (own-next stands-here t.is) in
+      let stands : StandsNext s (answer_at answers.list) r (slice_index turns.places r) t.number =
+      record { upto = t.held.upto r t.goes.within; here = t.goes.next } in
+      let own = subst (λ i. IsOwn s (answer_at answers.list) i t.line.path t.number t.line) line-rank (own-next stands t.is) in
       over_answers-own after_answer [] (AddsAnswer-put answers.list t.number a) own
 
   lines-other : (b : Option Answer) (q : ℕ) (p : List ℕ) → (t.line.rank ≡ q → t.line.path ≡ p → ⊥) → lines_with b q p ≡ lines q p
@@ -107,7 +95,7 @@ module _ {s : Job} {paths : List (List ℕ)} {books : List (Book PlainHold)} {bo
   module _ {books' : List (Book PlainHold)} {clients' : List KeptClient} {tasks' : List Task} {logs' : List Log} {a : Option Answer}
       (f : FollowsAt t.line.path s t.number t.line.op t.line.rank books books' board clients clients' tasks tasks' logs logs'
       (lines r t.line.path) a) where
-    pub follows : FollowsAt t.line.path s t.number t.line.op r books books' board clients clients' tasks tasks' logs logs' (lines r t.line.path) a
+    follows : FollowsAt t.line.path s t.number t.line.op r books books' board clients clients' tasks tasks' logs logs' (lines r t.line.path) a
     follows = subst (λ i. FollowsAt t.line.path s t.number t.line.op i books books' board clients clients' tasks tasks' logs logs'
         (lines r t.line.path) a) line-rank f
 
@@ -143,7 +131,6 @@ module _ {s : Job} {paths : List (List ℕ)} {books : List (Book PlainHold)} {bo
       beside = parts-at (λ k. lines k t.line.path) t.line.path clients r follows.was follows.beside;
       task = follows.task_was;
       midst = follows.midst;
-      quiet = t.quiet follows.task_was follows.midst;
       answer = a;
       then = state_then t.line.path;
       own = own_of follows.now t.line.path (lines_then t.line.op t.number (lines r t.line.path) a);
@@ -173,33 +160,17 @@ module _ {s : Job} {paths : List (List ℕ)} {books : List (Book PlainHold)} {bo
     states-are : states_after ≡ states_then stepped
     states-are = states-set state_was state_then paths place.0 t.line.path t.held.named.rising place.1 state-other
 
-    -- what the client is in the midst of then
-    pub task-is : (i : ℕ) (d : Task) → i ≡ r → get_or tasks' i d ≡ follows.task_now
-    task-is i d same =
-        ap (λ j. get_or tasks' j d) same
-        ∙ get_or_from_slice_get tasks' r follows.task_now d (ap (λ us. slice_get us r) follows.goes_on
-        ∙ slice_get-set_same tasks r follows.task_now (slice_get_within tasks r follows.task_was follows.midst))
-
-    -- it is over with the line, unless servers are told of that
-    pub ended-is : (answer : Answer) → a ≡ Some answer → (i : ℕ) (d : Task) → i ≡ r
-        → not (is_some (sends_of (get_or tasks' i d))) ≡ is_over a follows.task_now
-    ended-is answer is i d same = ap (λ u. not (is_some (sends_of u))) (task-is i d same) ∙ ap (λ b. is_over b follows.task_now) (sym is)
-
-    -- whose turn it is then
-    abbrev pub turns_now : Places
-    turns_now = turns_then (is_over a follows.task_now) r turns
-
-    pub holds-line : Holds s paths states_after given_after turns_now tasks' logs'
+    pub holds-line : Holds s paths states_after given_after (turns_with turns r a) tasks' logs'
     holds-line =
-        subst (λ xs. Holds s paths xs given_after turns_now tasks' logs') (sym states-are)
-        (subst (λ us. Holds s paths (states_then stepped) given_after turns_now us logs') (sym follows.goes_on)
+        subst (λ xs. Holds s paths xs given_after (turns_with turns r a) tasks' logs') (sym states-are)
+        (subst (λ us. Holds s paths (states_then stepped) given_after (turns_with turns r a) us logs') (sym follows.goes_on)
         (Holds-after stepped (paths-after stepped)))
 
-    pub step-line : moment_of s paths states_after given_after turns_now tasks' logs' false
+    pub step-line : moment_of s paths states_after given_after (turns_with turns r a) tasks' logs' false
         ≡ step (moment_of s paths (states_in s books board clients answers paths) answers turns tasks logs false) (record { client = r })
     step-line =
-        ap (λ xs. moment_of s paths xs given_after turns_now tasks' logs' false) states-are
-        ∙ ap (λ us. moment_of s paths (states_then stepped) given_after turns_now us logs' false) follows.goes_on
+        ap (λ xs. moment_of s paths xs given_after (turns_with turns r a) tasks' logs' false) states-are
+        ∙ ap (λ us. moment_of s paths (states_then stepped) given_after (turns_with turns r a) us logs' false) follows.goes_on
         ∙ step-is stepped (paths-after stepped)
 
     -- where what is noted of its path stays, all clients go on knowing of the paths that they knew of

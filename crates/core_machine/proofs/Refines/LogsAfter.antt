@@ -4,11 +4,11 @@ use Rattle.fs_types.proofs.Common.{Option, Some, None, IsSome, is_some, true≢f
 use Rattle.fs_types.proofs.Common.{cases_eq, cases_Bool, cond-true, cond-false, eqb-true, length-set, slice_get_within, false_from_ne_true, MatchBool}
 use Rattle.slot_plain.specs.Log.{Log}
 use Rattle.slot_plain.specs.Slots.{StoredPiece}
-use Rattle.fs_script.specs.Vocabulary.{Given, Job, Piece, op_at, rank_at, rank_in, need}
+use Rattle.fs_script.specs.Vocabulary.{Answer, Given, Job, Piece, op_at, rank_at, rank_in, need}
 use Rattle.fs_script.proofs.CallerLemmas.{place_unique, slice_get-set_same, slice_get-set_other}
 use Rattle.core_machine.specs.Vocabulary.{OpLine, PathState, PlainHold, Task, Places, Moment, IsTask, FillsLog}
 use Rattle.core_machine.specs.Vocabulary.{Stands, StandsForLogs, file_hold, pending_hold, task_hold, keeps}
-use Rattle.core_machine.specs.Vocabulary.{holds_kept, holds_of, moment_of, slot_in, stored_part, turns_then}
+use Rattle.core_machine.specs.Vocabulary.{holds_kept, holds_of, moment_of, slot_in, stored_part}
 use Rattle.core_machine.proofs.Places.{rank-op}
 use Rattle.core_machine.proofs.Refines.HoldsKept.{AllStand, FoundFor, found-for, holds-kept}
 use Rattle.core_machine.proofs.Refines.LinesAnswered.{PathsAfter}
@@ -16,7 +16,7 @@ use Rattle.core_machine.proofs.Refines.Owned.{own-path}
 use Rattle.core_machine.proofs.Refines.Readers.{count-none, count-set, task_count}
 use Rattle.core_machine.proofs.Refines.SlotsAfter.{filled-kept, filled-stands, settled-stands}
 use Rattle.core_machine.proofs.Refines.Stepped.{Stepped, event, given, given_then, list_then, states_then}
-use Rattle.core_machine.proofs.Refines.Stepped.{ended, tasks_after, turns_after, rank-is, not-answered}
+use Rattle.core_machine.proofs.Refines.Stepped.{tasks_after, turns_with, rank-is, not-answered}
 use Rattle.core_machine.proofs.Refines.Stepped.{stood, client_stood}
 
 module _ {s : Job} {paths : List (List ℕ)} {states : List PathState} {answers : Given} {turns : Places} {tasks : List Task}
@@ -28,7 +28,7 @@ module _ {s : Job} {paths : List (List ℕ)} {states : List PathState} {answers 
   before_moment = moment_of s paths states answers turns tasks logs false
 
   abbrev pub moment_then : Moment
-  moment_then = moment_of s paths (states_then t) answers_then (turns_after t) (tasks_after t) t.logs_then false
+  moment_then = moment_of s paths (states_then t) answers_then (turns_with turns r t.answer) (tasks_after t) t.logs_then false
 
   pub all_before : AllStand s paths states answers turns.phase turns.places tasks
   all_before = record {
@@ -41,9 +41,9 @@ module _ {s : Job} {paths : List (List ℕ)} {states : List PathState} {answers 
     tasks_whole = λ q u at. (t.held.tasks_stand q u at).task;
   }
 
-  places-then : (b : Bool) → length (turns_then b r turns).places ≡ length turns.places
-  places-then false = refl
-  places-then true = length-set turns.places r (slice_index turns.places r + 1)
+  places-then : (a : Option Answer) → length (turns_with turns r a).places ≡ length turns.places
+  places-then None = refl
+  places-then (Some a) = length-set turns.places r (slice_index turns.places r + 1)
 
   pub whole-then : (q : ℕ) (u : Task) → slice_get (tasks_after t) q ≡ Some u → IsTask s u
   whole-then q u at = elim (cases_eq q r) [
@@ -52,14 +52,14 @@ module _ {s : Job} {paths : List (List ℕ)} {states : List PathState} {answers 
     | inr other ↦ (t.held.tasks_stand q u (sym (slice_get-set_other tasks r q t.task_then other) ∙ at)).task
   ]
 
-  pub all_then : AllStand s paths (states_then t) answers_then turns.phase (turns_after t).places (tasks_after t)
+  pub all_then : AllStand s paths (states_then t) answers_then turns.phase (turns_with turns r t.answer).places (tasks_after t)
   all_then = record {
     named = t.held.named;
     chunk = t.held.job.chunk;
     clients = t.held.job.clients;
     kept = length-set states t.place t.then ∙ t.held.kept;
     each = after.each;
-    tasked = places-then (ended t) ∙ t.held.clients ∙ sym t.held.tasked ∙ sym (length-set tasks r t.task_then);
+    tasked = places-then t.answer ∙ t.held.clients ∙ sym t.held.tasked ∙ sym (length-set tasks r t.task_then);
     tasks_whole = whole-then;
   }
 
@@ -206,9 +206,9 @@ module _ {s : Job} {paths : List (List ℕ)} {states : List PathState} {answers 
     held-change : holds_of moment_then o.rank q + before q ≡ holds_of before_moment o.rank q + after_holds q
     held-change =
         let f = found-for turns logs false turns.phase all_before q.line o is in
-        let g = found-for (turns_after t) t.logs_then false turns.phase all_then q.line o is in
+        let g = found-for (turns_with turns r t.answer) t.logs_then false turns.phase all_then q.line o is in
         let was = holds-kept turns logs false turns.phase all_before q o is f in
-        let then = holds-kept (turns_after t) t.logs_then false turns.phase all_then q o is g in
+        let then = holds-kept (turns_with turns r t.answer) t.logs_then false turns.phase all_then q o is g in
         omega (arith, was, then, kept-change f g, tasks-change q)
 
   -- ---- the line's own pieces
@@ -233,8 +233,8 @@ module _ {s : Job} {paths : List (List ℕ)} {states : List PathState} {answers 
   own-held : (q : Piece) → q.line ≡ t.number → holds_of moment_then r q ≡ after_holds q
   own-held q here =
       let is = ap (op_at s) here ∙ t.is in
-      let g = found-for (turns_after t) t.logs_then false turns.phase all_then q.line t.line is in
-      let then = holds-kept (turns_after t) t.logs_then false turns.phase all_then q t.line is g in
+      let g = found-for (turns_with turns r t.answer) t.logs_then false turns.phase all_then q.line t.line is in
+      let then = holds-kept (turns_with turns r t.answer) t.logs_then false turns.phase all_then q t.line is g in
       let place : g.place ≡ t.place = place_unique paths g.place t.place t.line.path t.held.named.rising g.at t.at in
       let state : t.then ≡ g.state = same_Some t.then g.state
       (sym (slice_get-set_same states t.place t.then (slice_get_within states t.place t.was t.there))

@@ -1,12 +1,12 @@
 -- The end of a phase: all clients are told of every path, and all that is kept goes on holding in the next phase.
-use Rattle.fs_types.proofs.Common.{◌≡◌, ℕ, zero, suc, ◌<◌, Bool, false, cond, List, [], ◌∷◌, length, map, Some, IfSome, IsSome}
+use Rattle.fs_types.proofs.Common.{◌≡◌, ℕ, zero, suc, ◌<◌, Bool, false, cond, List, [], ◌∷◌, length, map, Some, IsSome}
 use Rattle.fs_types.proofs.Common.{nat_lt, count_by, slice_index, refl, sym, ap, ◌∙◌, subst, arith, zip, slice_get}
 use Rattle.fs_types.proofs.Common.{AllByRecursion, lt-ltb, length-map, sum_by-cons, map-map, same_Some}
 use Rattle.fs_script.specs.Vocabulary.{Given, answer_at, Job, phase, program, Answering}
 use Rattle.core_machine.specs.Kept.{OwnedPath, owner_told}
 use Rattle.slot_plain.specs.Log.{Log}
 use Rattle.core_machine.specs.Vocabulary.{PathState, Task, known_of, with_told, Places, IsAnsweredUpTo}
-use Rattle.core_machine.specs.Vocabulary.{done_lines, sends_of, clients_of, holds_of, moment_of, next_in, pieces_in, Holds}
+use Rattle.core_machine.specs.Vocabulary.{clients_of, holds_of, moment_of, next_in, pieces_in, Holds}
 use Rattle.core_machine.specs.Vocabulary.{HoldsOfPath, Stands, StandsForLogs, StandsForLookUp}
 use Rattle.core_machine.specs.Vocabulary.{StandsForOwner}
 use Rattle.fs_script.proofs.CallerLemmas.{AllByRecursion-weaker}
@@ -62,7 +62,7 @@ Holds-told {s} {paths} {states} {answers} {turns} {tasks} {logs} then job places
   tasked = held.tasked;
   few = held.few;
   room = held.room;
-  upto = λ r t at. subst (λ ps. IsAnsweredUpTo s (answer_at answers.list) r (done_lines (slice_index ps r) t)) (sym places) (held.upto r t at);
+  upto = λ r within. subst (λ ps. IsAnsweredUpTo s (answer_at answers.list) r (slice_index ps r)) (sym places) (held.upto r within);
   past = λ m given. let was = held.past m given in omega arith;
   each = λ i p x at there.
       let y = told-at states i x there in
@@ -88,12 +88,7 @@ Holds-told {s} {paths} {states} {answers} {turns} {tasks} {logs} then job places
       subst (HoldsOfPath s logs) y.2 (record { files = holds.files; pending = holds.pending });
   tasks_stand = λ r t at.
       let stands = held.tasks_stand r t at in
-      record {
-        task = stands.task;
-        pins = stands.pins;
-        line = λ n o next op. stands.line n o (sym (next-same r) ∙ next) op;
-        sends = subst (λ x. IfSome (sends_of t) (λ b. x ≡ Some b.line)) (sym (next-same r)) stands.sends;
-      };
+      record { task = stands.task; pins = stands.pins; line = λ n o next op. stands.line n o (sym (next-same r) ∙ next) op };
   looked_up = λ r t n i o x at next op place there.
       let y = told-at states i x there in
       let looked = held.looked_up r t n i o y.0 at (sym (next-same r) ∙ next) op place y.1 in

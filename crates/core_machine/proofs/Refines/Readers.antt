@@ -3,7 +3,7 @@ use Rattle.fs_types.proofs.Common.{◌≡◌, ℕ, zero, suc, ◌+◌, ◌<◌, 
 use Rattle.fs_types.proofs.Common.{Some, is_some, none-some, same_Some, refl, sym, ap, ◌∙◌, arith, sum_by-cons}
 use Rattle.fs_script.specs.Vocabulary.{Job, Piece, Fragment}
 use Rattle.piece_table.specs.HeldSpans.{is_named}
-use Rattle.core_machine.specs.Vocabulary.{Task, Idle, Read, Send, doing_of, marks_of_task, task_hold, IsTask, names, client_at, clients_of}
+use Rattle.core_machine.specs.Vocabulary.{Task, Idle, Read, doing_of, marks_of_task, task_hold, IsTask, names, client_at, clients_of}
 use Rattle.core_machine.proofs.NamedPieces.{bears-runs}
 
 -- how many of the tasks hold it
@@ -13,7 +13,6 @@ task_count q ts = count_by (λ t. is_some (task_hold t q)) ts
 -- what a client is in the midst of names the pieces that it holds
 pub names-task : (s : Job) (t : Task) (q : Piece) → IsTask s t → names (doing_of t) q ≡ is_some (task_hold t q)
 names-task s Idle q is = refl
-names-task s (Send t) q is = refl
 names-task s (Read t) q is =
     bears-runs (marks_of_task t) q ∙ ap (λ (fs : List Fragment). is_named fs q) is.runs_are ∙ sym (is.pinned.named q)
 

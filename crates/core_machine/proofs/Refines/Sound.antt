@@ -1,20 +1,19 @@
 -- What is kept for a client that goes is sound for the event of its line.
-use Rattle.fs_types.proofs.Common.{◌≡◌, ℕ, ◌-◌, ◌^◌, ◌<◌, ◌≤◌, false, cond, List, length, slice_get, Some, None, IsSome, is_some}
+use Rattle.fs_types.proofs.Common.{◌≡◌, ℕ, ◌-◌, ◌^◌, ◌<◌, ◌≤◌, false, cond, List, length, slice_get, Some, IsSome, is_some}
 use Rattle.fs_types.proofs.Common.{All, none-some, refl, sym, ap, ◌∙◌, subst, inl, inr, arith, false_from_ne_true}
 use Rattle.fs_types.proofs.Common.{or_cases, slice_index, count_by-le-length}
 use Rattle.fs_types.proofs.Common.{get_or_from_slice_get, cond_both, [], ◌∷◌, suc}
 use Rattle.slot_plain.specs.Log.{Log}
 use Rattle.fs_script.specs.Vocabulary.{Given, answer_at, Job, Piece, op_at, program}
 use Rattle.core_machine.specs.Vocabulary.{OpLine, Client, PathState, ClientPath, Task, Places, EventSound, Holds, Stands, IsInMemory, names}
-use Rattle.core_machine.specs.Vocabulary.{IsAnsweredUpTo, sends_of, clients_of, file_hold, holds_of, is_owned, keeps, moment_of, pending_hold, slot_in}
+use Rattle.core_machine.specs.Vocabulary.{clients_of, file_hold, holds_of, is_owned, keeps, moment_of, pending_hold, slot_in}
 use Rattle.fs_script.proofs.CallerLemmas.{slice_get-some, some_of}
 use Rattle.core_machine.proofs.Places.{StandsNext, unanswered}
-use Rattle.core_machine.proofs.Refines.DoneLines.{done-quiet}
 use Rattle.core_machine.proofs.Refines.SlotsAfter.{cases_piece}
 use Rattle.core_machine.proofs.Refines.Stepped.{kept_as}
 
 -- as many clients as places, where there are as many tasks
-pub clients-many : (places : List ℕ) (tasks : List Task) → length places ≡ length tasks → length (clients_of places tasks) ≡ length places
+clients-many : (places : List ℕ) (tasks : List Task) → length places ≡ length tasks → length (clients_of places tasks) ≡ length places
 clients-many [] [] size = refl
 clients-many [] (t ∷ ts) size = absurd (omega arith)
 clients-many (p ∷ ps) [] size = absurd (omega arith)
@@ -46,16 +45,13 @@ module _ {s : Job} {paths : List (List ℕ)} {states : List PathState} {answers 
   module _ (r n : ℕ) (o : OpLine) (place : ℕ) (x : PathState) (k : ClientPath) (t : Task) (within : r < s.shape.clients)
       (next : slice_get (program s r) (slice_index turns.places r) ≡ Some n) (is : op_at s n ≡ Some o)
       (at : slice_get paths place ≡ Some o.path) (there : slice_get states place ≡ Some x) (beside : slice_get x.clients r ≡ Some k)
-      (midst : slice_get tasks r ≡ Some t) (quiet : sends_of t ≡ None) where
+      (midst : slice_get tasks r ≡ Some t) where
     stood : Stands s (answer_at answers.list) turns.phase o.path x
     stood = held.each place o.path x at there
 
     fresh-line : IsSome (answer_at answers.list n) → ⊥
     fresh-line given =
-        let stands : StandsNext s (answer_at answers.list) r (slice_index turns.places r) n = record {
-          upto = subst (IsAnsweredUpTo s (answer_at answers.list) r) (done-quiet (slice_index turns.places r) t quiet) (held.upto r t midst);
-          here = next;
-        } in
+        let stands : StandsNext s (answer_at answers.list) r (slice_index turns.places r) n = record { upto = held.upto r within; here = next } in
         none-some _ (sym (unanswered stands) ∙ (some_of (answer_at answers.list n) given).1)
 
     fresh-piece : (q : Piece) → q.line ≡ n → keeps x.owned k q ≡ false
@@ -90,7 +86,6 @@ module _ {s : Job} {paths : List (List ℕ)} {states : List PathState} {answers 
           free = held.logs_stand.free;
           few = few-in_slot;
           memory = in-memory;
-          quiet = quiet;
           log = (let size = held.logs_stand.sized in omega (arith, size, within));
           rank = λ log found. (held.logs_stand.each r log found).rank;
         }

@@ -16,7 +16,7 @@ use Rattle.core_machine.proofs.Refines.LogsAfter.{LogsStandThen, all_then, logs-
 use Rattle.core_machine.proofs.Refines.Owned.{own-path}
 use Rattle.core_machine.proofs.Refines.Readers.{count-some, task_count}
 use Rattle.core_machine.proofs.Refines.SlotsAfter.{settled-piece}
-use Rattle.core_machine.proofs.Refines.Stepped.{Stepped, given_then, states_then, tasks_after, turns_after}
+use Rattle.core_machine.proofs.Refines.Stepped.{Stepped, given_then, states_then, tasks_after, turns_with}
 
 module _ {s : Job} {paths : List (List ℕ)} {states : List PathState} {answers : Given} {turns : Places} {tasks : List Task}
     {logs : List Log} {r : ℕ} (t : Stepped s paths states answers turns tasks logs r) (after : PathsAfter t) where
@@ -67,11 +67,11 @@ module _ {s : Job} {paths : List (List ℕ)} {states : List PathState} {answers 
 
   module _ (q : Piece) (o : OpLine) (is : op_at s q.line ≡ Some o) where
     kept_at : FoundFor paths (states_then t) o
-    kept_at = found-for (turns_after t) t.logs_then false turns.phase (all_then t after) q.line o is
+    kept_at = found-for (turns_with turns r t.answer) t.logs_then false turns.phase (all_then t after) q.line o is
 
     count-is : holds_of (moment_then t after) o.rank q
         ≡ cond (keeps kept_at.state.owned kept_at.client q) 1 0 + task_count q (tasks_after t)
-    count-is = holds-kept (turns_after t) t.logs_then false turns.phase (all_then t after) q o is kept_at
+    count-is = holds-kept (turns_with turns r t.answer) t.logs_then false turns.phase (all_then t after) q o is kept_at
 
     wanted-kept : keeps kept_at.state.owned kept_at.client q ≡ true → 0 < holds_of (moment_then t after) o.rank q
     wanted-kept kept =

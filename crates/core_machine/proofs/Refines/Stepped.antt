@@ -1,16 +1,15 @@
 -- One event of a client that goes, as the core has it: whose line it is, what was kept, and what is kept after it.
-use Rattle.fs_types.proofs.Common.{◌≡◌, ℕ, ◌<◌, Bool, List, set, slice_index, slice_get, Option, Some}
+use Rattle.fs_types.proofs.Common.{◌≡◌, ℕ, ◌<◌, List, set, slice_index, slice_get, Option, Some}
 use Rattle.fs_types.proofs.Common.{None, IsSome, true≢false, sym, ap, ◌∙◌, subst, arith, refl}
 use Rattle.fs_types.proofs.Common.{common_steps, eq-eqb, bytes_eq-Decides, false_from_ne_true, and_parts, eqb-true, cond-false, is_some}
 use Rattle.slot_plain.specs.Log.{Log}
 use Rattle.fs_script.specs.Vocabulary.{Answer, Given, answer_at, Job, op_at, own_op, rank_in, phase, program, Answering, past_lines, pending}
 use Rattle.core_machine.specs.Vocabulary.{OpLine, Event, PathState, ClientPath, Task, EventFollows, EventKept, IsWhole, Places, Holds, Stands}
-use Rattle.core_machine.specs.Vocabulary.{IsAnsweredUpTo, StandsForClient, StandsForLookUp, answers_with, next_in, pending_lines, sends_of, turns_then}
+use Rattle.core_machine.specs.Vocabulary.{StandsForClient, StandsForLookUp, after_line, answers_with, next_in, pending_lines}
 use Rattle.fs_script.proofs.CallerLemmas.{own_op-rank, op_at-within, program-op}
 use Rattle.core_machine.proofs.Places.{StandsNext, comes_next, unanswered}
 use Rattle.core_machine.proofs.Refines.NextAnswers.{IsOpenFrom-next, over_answers-until}
 use Rattle.core_machine.proofs.Refines.Clients.{IsOwn}
-use Rattle.core_machine.proofs.Refines.DoneLines.{done-quiet, is_over}
 
 -- all that an event may change
 abbrev pub kept_as : PathState → ClientPath → Task → List Log → EventKept
@@ -35,7 +34,6 @@ pub record Stepped (s : Job) (paths : List (List ℕ)) (states : List PathState)
   pub beside : slice_get was.clients r ≡ Some client
   pub task : Task
   pub midst : slice_get tasks r ≡ Some task
-  pub quiet : sends_of task ≡ None
   -- the answer, if it has one, and what is kept after it
   pub answer : Option Answer
   pub then : PathState
@@ -45,6 +43,11 @@ pub record Stepped (s : Job) (paths : List (List ℕ)) (states : List PathState)
   pub changed : then.clients ≡ set was.clients r own
   pub follows : EventFollows s number line.op r (kept_as was client task logs) (kept_as then own task_then logs_then) answer
   pub whole : IsWhole s line.op (kept_as then own task_then logs_then)
+
+-- whose turn it is after an answer, or none
+abbrev pub turns_with : Places → ℕ → Option Answer → Places
+turns_with turns r None = turns
+turns_with turns r (Some a) = after_line turns r
 
 -- it is no line of another client, nor of another path
 pub own_op-other : (o : OpLine) (r : ℕ) (p : List ℕ) → (o.rank ≡ r → o.path ≡ p → ⊥) → own_op r p (Some o) ≡ None
@@ -76,21 +79,11 @@ module _ {s : Job} {paths : List (List ℕ)} {states : List PathState} {answers 
   abbrev pub tasks_after : List Task
   tasks_after = set tasks r t.task_then
 
-  -- whether the client is over with its line, and whose turn it is then
-  abbrev pub ended : Bool
-  ended = is_over t.answer t.task_then
-
-  abbrev pub turns_after : Places
-  turns_after = turns_then ended r turns
-
   abbrev pub event : Event
   event = t.follows.event
 
   pub stands_next : StandsNext s given r (slice_index turns.places r) t.number
-  stands_next = record {
-    upto = subst (IsAnsweredUpTo s given r) (done-quiet (slice_index turns.places r) t.task t.quiet) (t.held.upto r t.task t.midst);
-    here = t.next;
-  }
+  stands_next = record { upto = t.held.upto r t.within; here = t.next }
 
   pub rank-is : t.line.rank ≡ r
   rank-is = grind (arith, common_steps, program-op)

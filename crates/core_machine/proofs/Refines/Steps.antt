@@ -1,5 +1,5 @@
 -- One event of a client that goes: what is kept after it stands, and the moment that it stands for is the machine's next one.
-use Rattle.fs_types.proofs.Common.{◌≡◌, ◌≢◌, ℕ, zero, suc, ◌+◌, ◌<◌, ◌≤◌, Bool, true, false, List, [], ◌∷◌, length, map, set, slice_index}
+use Rattle.fs_types.proofs.Common.{◌≡◌, ℕ, zero, suc, ◌+◌, ◌<◌, ◌≤◌, Bool, true, false, List, [], ◌∷◌, length, map, set, slice_index}
 use Rattle.fs_types.proofs.Common.{get_or, slice_get, if◌then◌else◌, Option, Some, None, IsSome, is_some, none-some}
 use Rattle.fs_types.proofs.Common.{same_Some, refl, sym, ap, ◌∙◌, subst, inl, inr, arith, cases_eq}
 use Rattle.fs_types.proofs.Common.{length-set, length-map, get_or-set_same, get_or-set_other, slice_get_within, get_or_from_slice_get, MatchBool}
@@ -10,7 +10,7 @@ use Rattle.fs_script.proofs.CallerLemmas.{slice_get-some, slice_get-set_same, sl
 use Rattle.core_machine.specs.Vocabulary.{PathState, Client, Moment, Task, PathNow, Places, OwnedPath, Holds, IsAnsweredUpTo, FillsLog}
 use Rattle.core_machine.specs.Vocabulary.{FollowsBy, Stands, pending_hold, stored_part, fresh_client, client_of, next_line}
 use Rattle.core_machine.specs.Vocabulary.{event_at, event_of, had_event, after_event, after_turn, step, path_now, client_at, clients_of, journals_of}
-use Rattle.core_machine.specs.Vocabulary.{answers_with, doing_of, done_lines, logs_with, sends_of, step_at, step_line, step_of, turns_then, with_entry, slot_of}
+use Rattle.core_machine.specs.Vocabulary.{after_line, answers_with, doing_of, logs_with, step_at, step_line, with_entry, slot_of}
 use Rattle.core_machine.specs.Vocabulary.{empty_slots, log_of, piece_in, pieces_in, pieces_of, slot_in, with_line, without_dead}
 use Rattle.core_machine.proofs.Places.{upto-own, upto-other}
 use Rattle.core_machine.proofs.Legal.Logs.{length-with_pieces}
@@ -22,10 +22,9 @@ use Rattle.core_machine.proofs.Refines.LogsAfter.{LogsStandThen, answers_then, b
 use Rattle.core_machine.proofs.Refines.LogsAre.{filled-row, logs-are, row-at}
 use Rattle.core_machine.proofs.Refines.Now.{kept_now-is}
 use Rattle.core_machine.proofs.Refines.StandThen.{path-holds-then}
-use Rattle.core_machine.proofs.Refines.Stepped.{Stepped, ended, event, given, given_then, states_then, tasks_after, turns_after}
+use Rattle.core_machine.proofs.Refines.Stepped.{Stepped, event, given, given_then, states_then, tasks_after, turns_with}
 use Rattle.core_machine.proofs.Refines.Stepped.{rank-is, is_own, stood, client_stood, stands_next, not-answered}
-use Rattle.core_machine.proofs.Refines.DoneLines.{done-answered, done-quiet, is_over, place-other, places-set}
-use Rattle.core_machine.proofs.Refines.TasksThen.{tasks-then, looked-then, quiet-then}
+use Rattle.core_machine.proofs.Refines.TasksThen.{tasks-then, looked-then}
 
 -- ---- clients
 
@@ -37,7 +36,16 @@ client-at (p ∷ ps) [] r t size at = absurd (omega arith)
 client-at (p ∷ ps) (u ∷ us) zero t size at = ap (λ v. client_at (p, v)) (same_Some u t at)
 client-at (p ∷ ps) (u ∷ us) (suc r) t size at = client-at ps us r t (omega arith) at
 
-pub clients-set : (places : List ℕ) (tasks : List Task) (r place : ℕ) (t : Task)
+-- its place, also past the last client
+pub client-place : (places : List ℕ) (tasks : List Task) (r : ℕ) → length places ≡ length tasks
+    → (get_or (clients_of places tasks) r fresh_client).place ≡ slice_index places r
+client-place [] [] r size = refl
+client-place [] (u ∷ us) r size = absurd (omega arith)
+client-place (p ∷ ps) [] r size = absurd (omega arith)
+client-place (p ∷ ps) (u ∷ us) zero size = refl
+client-place (p ∷ ps) (u ∷ us) (suc r) size = client-place ps us r (omega arith)
+
+clients-set : (places : List ℕ) (tasks : List Task) (r place : ℕ) (t : Task)
     → clients_of (set places r place) (set tasks r t) ≡ set (clients_of places tasks) r (client_at (place, t))
 clients-set [] [] r place t = refl
 clients-set [] (u ∷ us) r place t = refl
@@ -45,6 +53,12 @@ clients-set (p ∷ ps) [] zero place t = refl
 clients-set (p ∷ ps) [] (suc r) place t = refl
 clients-set (p ∷ ps) (u ∷ us) zero place t = refl
 clients-set (p ∷ ps) (u ∷ us) (suc r) place t = ap (λ cs. client_at (p, u) ∷ cs) (clients-set ps us r place t)
+
+-- a place that is set to what it is
+set-same_place : (places : List ℕ) (r : ℕ) → set places r (slice_index places r) ≡ places
+set-same_place [] r = refl
+set-same_place (p ∷ ps) zero = refl
+set-same_place (p ∷ ps) (suc r) = ap (λ rest. p ∷ rest) (set-same_place ps r)
 
 module _ {s : Job} {paths : List (List ℕ)} {states : List PathState} {answers : Given} {turns : Places} {tasks : List Task}
     {logs : List Log} {r : ℕ} (t : Stepped s paths states answers turns tasks logs r) (after : PathsAfter t) where
@@ -60,20 +74,8 @@ module _ {s : Job} {paths : List (List ℕ)} {states : List PathState} {answers 
   client-is : client_of m r ≡ client_at (slice_index turns.places r, t.task)
   client-is = client-at turns.places tasks r t.task sizes-same t.midst
 
-  abbrev place : ℕ
-  place = slice_index turns.places r
-
-  place-was : (client_of m r).place ≡ place
-  place-was = ap (λ (c : Client). c.place) client-is ∙ done-quiet place t.task t.quiet
-
-  inside : r < length turns.places
-  inside = (let within = t.within in let many = t.held.clients in omega (arith, within, many))
-
   next-is : next_line m r ≡ Some t.number
-  next-is = ap (slice_get (program s r)) place-was ∙ t.next
-
-  quiet-is : (client_of m r).sends ≡ None
-  quiet-is = ap (λ (c : Client). c.sends) client-is ∙ t.quiet
+  next-is = ap (λ (c : Client). slice_get (program s r) c.place) client-is ∙ t.next
 
   -- ---- the event
 
@@ -107,23 +109,26 @@ module _ {s : Job} {paths : List (List ℕ)} {states : List PathState} {answers 
   abbrev had : Moment
   had = record (moment_then t after) { logs = logs-filled }
 
-  -- how many lines the client has done then
-  done-then : (a : Option Answer) → t.answer ≡ a
-      → done_lines (slice_index (turns_then (is_over a t.task_then) r turns).places r) t.task_then ≡ (if is_some a then place + 1 else place)
-  done-then None is = done-quiet place t.task_then (quiet-then t after is)
-  done-then (Some a) is = done-answered turns r t.task_then (sends_of t.task_then) refl inside
+  clients-are : clients_of (turns_with turns r t.answer).places (tasks_after t) ≡ set m.clients r (after_turn (client_of m r) (event t))
+  clients-are = by t.answer refl where
+    place : ℕ
+    place = slice_index turns.places r
 
-  turn-place : (if is_some t.answer then place + 1 else place)
-      ≡ (if is_some (event t).answer then (client_of m r).place + 1 else (client_of m r).place)
-  turn-place = λ i. if is_some (sym t.follows.answer i) then sym place-was i + 1 else sym place-was i
+    turn-is : after_turn (client_of m r) (event t)
+        ≡ record { place = if is_some t.answer then place + 1 else place; doing = doing_of t.task_then }
+    turn-is = λ i. record {
+      place = if is_some (t.follows.answer i) then (client-is i).place + 1 else (client-is i).place;
+      doing = t.follows.doing i;
+    }
 
-  clients-are : clients_of (turns_after t).places (tasks_after t) ≡ set m.clients r (after_turn s t.number (client_of m r) (event t))
-  clients-are =
-      let at = slice_index (turns_after t).places r in
-      let done = done-then t.answer refl ∙ turn-place in
-      ap (λ ps. clients_of ps (tasks_after t)) (places-set turns r (ended t) inside)
-      ∙ clients-set turns.places tasks r at t.task_then
-      ∙ ap (set m.clients r) (λ i. record { place = done i; doing = sym t.follows.doing i; sends = sym t.follows.sends i })
+    by : (a : Option Answer) → t.answer ≡ a → clients_of (turns_with turns r a).places (tasks_after t)
+        ≡ set m.clients r (after_turn (client_of m r) (event t))
+    by None is =
+        ap (λ ps. clients_of ps (tasks_after t)) (sym (set-same_place turns.places r)) ∙ clients-set turns.places tasks r place t.task_then
+        ∙ ap (set m.clients r) (sym (turn-is ∙ ap (λ b. record { place = if is_some b then place + 1 else place; doing = doing_of t.task_then }) is))
+    by (Some a) is =
+        clients-set turns.places tasks r (place + 1) t.task_then
+        ∙ ap (set m.clients r) (sym (turn-is ∙ ap (λ b. record { place = if is_some b then place + 1 else place; doing = doing_of t.task_then }) is))
 
   journal-then : (a : Option Answer) → t.answer ≡ a → journal_kept t.then ≡ grown (journal_kept t.was) t.number (event t).commits
   journal-then None is =
@@ -208,53 +213,44 @@ module _ {s : Job} {paths : List (List ℕ)} {states : List PathState} {answers 
   -- the moment that is kept is the machine's next one
   pub step-is : moment_then t after ≡ step m (record { client = r })
   step-is =
-      sym (ap (step_of m r) quiet-is ∙ ap (step_at m r) next-is ∙ ap (step_line m r t.number) t.is ∙ ap (after_event m r t.number t.line) event-is
+      sym (ap (step_at m r) next-is ∙ ap (step_line m r t.number) t.is ∙ ap (after_event m r t.number t.line) event-is
       ∙ ap without_dead had-is ∙ (λ i. record (moment_then t after) { logs = logs-then-are i }))
 
   -- ---- all that is kept
 
-  phase-same : (b : Bool) → (turns_then b r turns).phase ≡ turns.phase
-  phase-same false = refl
-  phase-same true = refl
+  phase-same : (a : Option Answer) → (turns_with turns r a).phase ≡ turns.phase
+  phase-same None = refl
+  phase-same (Some a) = refl
 
-  job-same : (b : Bool) → (turns_then b r turns).job ≡ turns.job
-  job-same false = refl
-  job-same true = refl
+  job-same : (a : Option Answer) → (turns_with turns r a).job ≡ turns.job
+  job-same None = refl
+  job-same (Some a) = refl
 
-  places-same : (b : Bool) → length (turns_then b r turns).places ≡ length turns.places
-  places-same false = refl
-  places-same true = length-set turns.places r (place + 1)
+  places-same : (a : Option Answer) → length (turns_with turns r a).places ≡ length turns.places
+  places-same None = refl
+  places-same (Some a) = length-set turns.places r (slice_index turns.places r + 1)
 
   given-is : (a : Option Answer) → t.answer ≡ a → given_then t ≡ answer_at (answers_with t.number a answers.list)
   given-is a is = ap (λ b. answer_at (answers_with t.number b answers.list)) is
 
-  upto-own_then : (a : Option Answer) → t.answer ≡ a → IsAnsweredUpTo s (given_then t) r (if is_some a then place + 1 else place)
-  upto-own_then None is = subst (λ A. IsAnsweredUpTo s A r place) (sym (given-is None is)) (stands_next t).upto
-  upto-own_then (Some a) is =
-      upto-own (stands_next t) (given_then t) a
-      (subst (AddsAnswer (given t) t.number a) (sym (given-is (Some a) is)) (AddsAnswer-put answers.list t.number a))
-
-  upto-other_then : (a : Option Answer) → t.answer ≡ a → (q done : ℕ) → q ≢ r → IsAnsweredUpTo s (given t) q done
-      → IsAnsweredUpTo s (given_then t) q done
-  upto-other_then None is q done other upto = subst (λ A. IsAnsweredUpTo s A q done) (sym (given-is None is)) upto
-  upto-other_then (Some a) is q done other upto =
+  upto-then : (a : Option Answer) → t.answer ≡ a → (q : ℕ) → q < s.shape.clients
+      → IsAnsweredUpTo s (given_then t) q (slice_index (turns_with turns r a).places q)
+  upto-then None is q within =
+      subst (λ A. IsAnsweredUpTo s A q (slice_index turns.places q)) (sym (given-is None is)) (t.held.upto q within)
+  upto-then (Some a) is q within =
       let adds = subst (AddsAnswer (given t) t.number a) (sym (given-is (Some a) is)) (AddsAnswer-put answers.list t.number a) in
-      upto-other s q done t.line adds t.is (λ e. other (sym e ∙ rank-is t)) upto
-
-  upto-then : (q : ℕ) (u : Task) → slice_get (tasks_after t) q ≡ Some u
-      → IsAnsweredUpTo s (given_then t) q (done_lines (slice_index (turns_after t).places q) u)
-  upto-then q u at = elim (cases_eq q r) [
-    | inl same ↦
-        let own = same_Some u t.task_then (sym (ap (slice_get (tasks_after t)) (sym same) ∙ at)
-        ∙ slice_get-set_same tasks r t.task_then (slice_get_within tasks r t.task t.midst)) in
-        subst (λ i. IsAnsweredUpTo s (given_then t) i (done_lines (slice_index (turns_after t).places i) u)) (sym same)
-        (subst (λ v. IsAnsweredUpTo s (given_then t) r (done_lines (slice_index (turns_after t).places r) v)) (sym own)
-        (subst (IsAnsweredUpTo s (given_then t) r) (sym (done-then t.answer refl)) (upto-own_then t.answer refl)))
-    | inr other ↦
-        let was = sym (slice_get-set_other tasks r q t.task_then other) ∙ at in
-        subst (λ p. IsAnsweredUpTo s (given_then t) q (done_lines p u)) (sym (place-other turns r (ended t) q other))
-        (upto-other_then t.answer refl q (done_lines (slice_index turns.places q) u) other (t.held.upto q u was))
-  ]
+      let place = slice_index turns.places r in
+      elim (cases_eq q r) [
+        | inl same ↦
+            let bound = t.within in
+            let size = t.held.clients in
+            subst (λ i. IsAnsweredUpTo s (given_then t) i (slice_index (after_line turns r).places i)) (sym same)
+            (subst (IsAnsweredUpTo s (given_then t) r) (sym (get_or-set_same turns.places r (place + 1) 0 (omega (arith, bound, size))))
+            (upto-own (stands_next t) (given_then t) a adds))
+        | inr other ↦
+            subst (IsAnsweredUpTo s (given_then t) q) (sym (get_or-set_other turns.places r q (place + 1) 0 other))
+            (upto-other s q (slice_index turns.places q) t.line adds t.is (λ e. other (sym e ∙ rank-is t)) (t.held.upto q within))
+      ]
 
   past-then : (k : ℕ) → IsSome (given_then t k) → phase s k ≤ turns.phase
   past-then k counts = elim (cases_eq k t.number) [
@@ -262,20 +258,20 @@ module _ {s : Job} {paths : List (List ℕ)} {states : List PathState} {answers 
     | inr other ↦ t.held.past k (after.back k other counts)
   ]
 
-  pub Holds-after : Holds s paths (states_then t) (answers_then t after) (turns_after t) (tasks_after t) t.logs_then
+  pub Holds-after : Holds s paths (states_then t) (answers_then t after) (turns_with turns r t.answer) (tasks_after t) t.logs_then
   Holds-after = record {
     job = t.held.job;
-    same = job-same (ended t) ∙ t.held.same;
+    same = job-same t.answer ∙ t.held.same;
     named = t.held.named;
     kept = length-set states t.place t.then ∙ t.held.kept;
-    clients = places-same (ended t) ∙ t.held.clients;
+    clients = places-same t.answer ∙ t.held.clients;
     tasked = length-set tasks r t.task_then ∙ t.held.tasked;
     few = t.held.few;
     room = t.held.room;
-    upto = upto-then;
-    past = λ k counts. subst (λ p. phase s k ≤ p) (sym (phase-same (ended t))) (past-then k counts);
+    upto = upto-then t.answer refl;
+    past = λ k counts. subst (λ p. phase s k ≤ p) (sym (phase-same t.answer)) (past-then k counts);
     each = λ i p x at there.
-        subst (λ now. Stands s (given_then t) now p x) (sym (phase-same (ended t))) (after.each i p x at there);
+        subst (λ now. Stands s (given_then t) now p x) (sym (phase-same t.answer)) (after.each i p x at there);
     path_holds = λ i x there.
         let p = slice_get-some paths i (let lt = slice_get_within (states_then t) i x there in
         omega (arith, lt, length-set states t.place t.then, t.held.kept)) in

@@ -1,5 +1,5 @@
 -- What the clients are in the midst of after an event.
-use Rattle.fs_types.proofs.Common.{◌≡◌, ◌≢◌, ℕ, ◌+◌, Bool, true, false, List, length, slice_index, slice_get, Option, Some, None, IfSome}
+use Rattle.fs_types.proofs.Common.{◌≡◌, ◌≢◌, ℕ, ◌+◌, List, length, slice_index, slice_get, Option, Some, None}
 use Rattle.fs_types.proofs.Common.{same_Some, refl, sym, ap, ◌∙◌, subst, inl, inr, arith, cases_eq, cond_both}
 use Rattle.fs_types.proofs.Common.{nat_lt, slice_get_within, get_or-set_other, length-set}
 use Rattle.fs_types.specs.declared.attr.Attr.{Attr}
@@ -9,19 +9,16 @@ use Rattle.fs_script.specs.Vocabulary.{Answer, File, Given, Job, Mark, op_at, pr
 use Rattle.fs_script.specs.declared.line.Op.TheVariants as ops
 use Rattle.fs_script.proofs.CallerLemmas.{place_unique, slice_get-some, slice_get-set_same, slice_get-set_other}
 use Rattle.core_machine.specs.Vocabulary.{Op, OpLine, PathState, OwnedPath, Task, Idle}
-use Rattle.core_machine.specs.Task.{IsOver}
-use Rattle.core_machine.specs.Vocabulary.{Broadcast, Read, Send, Doing, nothing, reading, Event, PathNow, sends_of, tells, turns_then}
+use Rattle.core_machine.specs.Vocabulary.{Read, Doing, nothing, reading, Event, PathNow}
 use Rattle.core_machine.specs.Vocabulary.{HasAttr, Places, attr_seen, free_in, MayBeIn, StandsForLookUp, StandsForTask, doing_of, event_of}
 use Rattle.core_machine.specs.Vocabulary.{kept_now, known_of, next_in, lookup_over, read_event, create_over}
 use Rattle.core_machine.specs.Events.Open.{open_over}
 use Rattle.core_machine.proofs.EventsFollow.{known-file}
 use Rattle.core_machine.proofs.Legal.Measured.{event_of-measured, Falls}
-use Rattle.core_machine.proofs.ReadEvents.{reads-quietly}
-use Rattle.core_machine.proofs.Refines.DoneLines.{broadcast_of-line, is_over, not-over}
 use Rattle.core_machine.proofs.Refines.LinesAnswered.{PathsAfter, KeepsVersions}
 use Rattle.core_machine.proofs.Refines.LogsAfter.{whole-then}
 use Rattle.core_machine.proofs.Refines.StandThen.{pins-then}
-use Rattle.core_machine.proofs.Refines.Stepped.{Stepped, ended, event, given, given_then, states_then, tasks_after, turns_after, looked_up, next-in, stood}
+use Rattle.core_machine.proofs.Refines.Stepped.{Stepped, event, given, given_then, states_then, tasks_after, turns_with, looked_up, next-in, stood}
 
 -- ---- the version that an event looks up
 
@@ -64,26 +61,20 @@ module _ {s : Job} {paths : List (List ℕ)} {states : List PathState} {answers 
   abbrev seen_now : PathNow
   seen_now = kept_now s t.was.owned t.client (free_in logs r)
 
-  falls : (a : Option Answer) → t.answer ≡ a → Falls s t.line.op (doing_of t.task) a (event t).doing (tells s (event t).sends)
-  falls a is = subst (λ b. Falls s t.line.op (doing_of t.task) b (event t).doing (tells s (event t).sends)) (t.follows.answer ∙ is)
-      (subst (λ (e : Event). Falls s t.line.op (doing_of t.task) e.answer e.doing (tells s e.sends)) (sym t.follows.is)
-      (event_of-measured s seen_now (doing_of t.task) t.line.op).falls)
-
   -- an answer ends the line
-  over-then : (a : Answer) → t.answer ≡ Some a → IsOver t.task_then
-  over-then a is = by t.task_then (sym t.follows.doing ∙ (falls (Some a) is).0) where
-    by : (u : Task) → doing_of u ≡ nothing → IsOver u
-    by Idle e = tt
-    by (Read d) e = absurd cc
-    by (Send d) e = tt
+  idle-then : (a : Answer) → t.answer ≡ Some a → t.task_then ≡ Idle
+  idle-then a is = by t.task_then (sym t.follows.doing ∙ ends) where
+    falls : Falls t.line.op (doing_of t.task) (Some a) (event t).doing
+    falls = subst (λ b. Falls t.line.op (doing_of t.task) b (event t).doing) (t.follows.answer ∙ is)
+        (subst (λ (e : Event). Falls t.line.op (doing_of t.task) e.answer e.doing) (sym t.follows.is)
+        (event_of-measured s seen_now (doing_of t.task) t.line.op).falls)
 
-  -- without one its client reads, so no server is left to be told
-  pub quiet-then : t.answer ≡ None → sends_of t.task_then ≡ None
-  quiet-then is = by (event t).doing (falls None is) t.follows.doing where
-    by : (d : Doing) → Falls s t.line.op (doing_of t.task) None d (tells s (event t).sends) → d ≡ doing_of t.task_then
-        → sends_of t.task_then ≡ None
-    by nothing none same = absurd none
-    by (reading d) less same = reads-quietly d t.task_then same
+    ends : (event t).doing ≡ nothing
+    ends = falls
+
+    by : (u : Task) → doing_of u ≡ nothing → u ≡ Idle
+    by Idle e = refl
+    by (Read d) e = absurd cc
 
   task-own : (u : Task) → slice_get (tasks_after t) r ≡ Some u → u ≡ t.task_then
   task-own u at = same_Some u t.task_then (sym at ∙ slice_get-set_same tasks r t.task_then (slice_get_within tasks r t.task t.midst))
@@ -92,50 +83,30 @@ module _ {s : Job} {paths : List (List ℕ)} {states : List PathState} {answers 
   task-other c u other at = sym (slice_get-set_other tasks r c t.task_then other) ∙ at
 
   -- another client's next line stays
-  next-other : (b : Bool) (c : ℕ) → c ≢ r → next_in (turns_then b r turns) c ≡ next_in turns c
-  next-other false c other = refl
-  next-other true c other =
+  next-other : (a : Option Answer) (c : ℕ) → c ≢ r → next_in (turns_with turns r a) c ≡ next_in turns c
+  next-other None c other = refl
+  next-other (Some a) c other =
       ap (slice_get (program turns.job c)) (get_or-set_other turns.places r c (slice_index turns.places r + 1) 0 other)
 
   -- ---- each is whole, and may be in the midst of its line
 
-  own-line : (a : Option Answer) → t.answer ≡ a → (n : ℕ) (o : OpLine) → next_in (turns_then (is_over a t.task_then) r turns) r ≡ Some n
-      → op_at s n ≡ Some o → MayBeIn o.op t.task_then
-  own-line (Some a) is n o at op = by t.task_then (over-then a is) where
-    by : (u : Task) → IsOver u → MayBeIn o.op u
-    by Idle over = tt
-    by (Read d) over = absurd over
-    by (Send d) over = tt
+  own-line : (a : Option Answer) → t.answer ≡ a → (n : ℕ) (o : OpLine) → next_in (turns_with turns r a) r ≡ Some n → op_at s n ≡ Some o
+      → MayBeIn o.op t.task_then
+  own-line (Some a) is n o at op = subst (MayBeIn o.op) (sym (idle-then a is)) tt
   own-line None is n o at op =
       let same : t.number ≡ n = same_Some t.number n (sym (next-in t) ∙ at) in
       let line : t.line ≡ o = same_Some t.line o (sym t.is ∙ ap (op_at s) same ∙ op) in
       subst (λ (l : OpLine). MayBeIn l.op t.task_then) line t.whole.midst
 
-  -- it is its line that servers are told of then
-  own-sends : (o : Option Broadcast) → sends_of t.task_then ≡ o → IfSome o (λ b. next_in (turns_after t) r ≡ Some b.line)
-  own-sends None is = tt
-  own-sends (Some b) is =
-      ap (λ e. next_in (turns_then e r turns) r) (not-over t.answer t.task_then b is) ∙ next-in t
-      ∙ ap Some (sym (broadcast_of-line s t.number (event t).sends b (t.follows.sends ∙ is)))
-
-  pub tasks-then : (c : ℕ) (u : Task) → slice_get (tasks_after t) c ≡ Some u → StandsForTask s (turns_after t) t.logs_then c u
+  pub tasks-then : (c : ℕ) (u : Task) → slice_get (tasks_after t) c ≡ Some u → StandsForTask s (turns_with turns r t.answer) t.logs_then c u
   tasks-then c u at = record {
     task = whole-then t after c u at;
     pins = pins-then t after c u at;
     line = λ n o next op. elim (cases_eq c r) [
       | inl is ↦
           let own = task-own u (ap (slice_get (tasks_after t)) (sym is) ∙ at) in
-          subst (MayBeIn o.op) (sym own) (own-line t.answer refl n o (ap (next_in (turns_after t)) (sym is) ∙ next) op)
-      | inr other ↦ (t.held.tasks_stand c u (task-other c u other at)).line n o (sym (next-other (ended t) c other) ∙ next) op
-    ];
-    sends = elim (cases_eq c r) [
-      | inl is ↦
-          let own = task-own u (ap (slice_get (tasks_after t)) (sym is) ∙ at) in
-          subst (λ i. IfSome (sends_of u) (λ b. next_in (turns_after t) i ≡ Some b.line)) (sym is)
-          (subst (λ v. IfSome (sends_of v) (λ b. next_in (turns_after t) r ≡ Some b.line)) (sym own) (own-sends (sends_of t.task_then) refl))
-      | inr other ↦
-          subst (λ x. IfSome (sends_of u) (λ b. x ≡ Some b.line)) (sym (next-other (ended t) c other))
-          (t.held.tasks_stand c u (task-other c u other at)).sends
+          subst (MayBeIn o.op) (sym own) (own-line t.answer refl n o (ap (next_in (turns_with turns r t.answer)) (sym is) ∙ next) op)
+      | inr other ↦ (t.held.tasks_stand c u (task-other c u other at)).line n o (sym (next-other t.answer c other) ∙ next) op
     ];
   }
 
@@ -143,7 +114,6 @@ module _ {s : Job} {paths : List (List ℕ)} {states : List PathState} {answers 
 
   looks-then : (x y : OwnedPath) → KeepsVersions t x y → (u : Task) → StandsForLookUp s (given t) x u → StandsForLookUp s (given_then t) y u
   looks-then x y keeps Idle is = record { within = tt; known = tt }
-  looks-then x y keeps (Send d) is = record { within = tt; known = tt }
   looks-then x y keeps (Read d) is =
       let within = is.within in
       record { within = omega (arith, within, keeps.longer); known = is.known ∙ ap known_of (keeps.same d.version within) }
@@ -155,7 +125,6 @@ module _ {s : Job} {paths : List (List ℕ)} {states : List PathState} {answers 
   -- what the client whose event it is has looked up, by what was kept
   own-looks : (u : Task) → doing_of u ≡ (event t).doing → HasAttr (attr_seen t.was.owned t.task) u → StandsForLookUp s (given t) t.was.owned u
   own-looks Idle is has = record { within = tt; known = tt }
-  own-looks (Send d) is has = record { within = tt; known = tt }
   own-looks (Read d) is has =
       by t.task (subst (LooksUp (version_seen seen_now (doing_of t.task))) (sym is)
       (subst (λ (e : Event). LooksUp (version_seen seen_now (doing_of t.task)) e.doing) (sym t.follows.is)
@@ -167,33 +136,27 @@ module _ {s : Job} {paths : List (List ℕ)} {states : List PathState} {answers 
       by : (v : Task) → d.version ≡ version_seen seen_now (doing_of v) → d.attr ≡ attr_seen t.was.owned v
           → StandsForLookUp s (given t) t.was.owned v → StandsForLookUp s (given t) t.was.owned (Read d)
       by Idle at attr_is was = record { within = omega (arith, at); known = attr_is ∙ known-now ∙ ap known_at (sym at) }
-      by (Send e) at attr_is was = record { within = omega (arith, at); known = attr_is ∙ known-now ∙ ap known_at (sym at) }
       by (Read e) at attr_is was =
           let within = was.within in
           record { within = omega (arith, within, at); known = attr_is ∙ was.known ∙ ap known_at (sym at) }
 
   pub looked-then : (c : ℕ) (u : Task) (n i : ℕ) (o : OpLine) (x : PathState) → slice_get (tasks_after t) c ≡ Some u
-      → next_in (turns_after t) c ≡ Some n → op_at s n ≡ Some o → slice_get paths i ≡ Some o.path
+      → next_in (turns_with turns r t.answer) c ≡ Some n → op_at s n ≡ Some o → slice_get paths i ≡ Some o.path
       → slice_get (states_then t) i ≡ Some x → StandsForLookUp s (given_then t) x.owned u
   looked-then c u n i o x at next op place there = elim (cases_eq c r) [
     | inl is ↦
         let own = task-own u (ap (slice_get (tasks_after t)) (sym is) ∙ at) in
         subst (StandsForLookUp s (given_then t) x.owned) (sym own)
-        (mine t.answer refl (ap (next_in (turns_after t)) (sym is) ∙ next))
+        (mine t.answer refl (ap (next_in (turns_with turns r t.answer)) (sym is) ∙ next))
     | inr other ↦
         let lt = slice_get_within (states_then t) i x there in
         let was = slice_get-some states i (omega (arith, lt, length-set states t.place t.then)) in
-        let before = t.held.looked_up c u n i o was.0 (task-other c u other at) (sym (next-other (ended t) c other) ∙ next) op place was.1 in
+        let before = t.held.looked_up c u n i o was.0 (task-other c u other at) (sym (next-other t.answer c other) ∙ next) op place was.1 in
         looks-then was.0.owned x.owned (after.versions i was.0 x was.1 there) u before
   ]
     where
-      mine : (a : Option Answer) → t.answer ≡ a → next_in (turns_then (is_over a t.task_then) r turns) r ≡ Some n
-          → StandsForLookUp s (given_then t) x.owned t.task_then
-      mine (Some a) is at_next = by t.task_then (over-then a is) where
-        by : (v : Task) → IsOver v → StandsForLookUp s (given_then t) x.owned v
-        by Idle over = record { within = tt; known = tt }
-        by (Read d) over = absurd over
-        by (Send d) over = record { within = tt; known = tt }
+      mine : (a : Option Answer) → t.answer ≡ a → next_in (turns_with turns r a) r ≡ Some n → StandsForLookUp s (given_then t) x.owned t.task_then
+      mine (Some a) is at_next = subst (StandsForLookUp s (given_then t) x.owned) (sym (idle-then a is)) (record { within = tt; known = tt })
       mine None is at_next =
           let same : t.number ≡ n = same_Some t.number n (sym (next-in t) ∙ at_next) in
           let line : t.line ≡ o = same_Some t.line o (sym t.is ∙ ap (op_at s) same ∙ op) in

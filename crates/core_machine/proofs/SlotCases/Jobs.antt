@@ -48,7 +48,7 @@ read_with fetched = reading (record {
 })
 
 abbrev pub client : ℕ → Doing → Client
-client place doing = record { place = place; doing = doing; sends = None }
+client place doing = record { place = place; doing = doing }
 
 abbrev pub turn_of : ℕ → Turn
 turn_of r = record { client = r }

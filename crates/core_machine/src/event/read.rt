@@ -200,18 +200,14 @@ pub fn read<D: SpillDev + Drop>(
     ensures same { IsAsBefore book.old book.new }
     ensures elsewhere { ChangesOwn client.old client.new p.now }
 {
-    match task {
-        Task::Read(t) => {
-            if t.fetched < t.runs.len() {
-                fetch_next(t, logs);
-                return Ok(None);
-            }
-            let answer = finish(alloc, t, p, client, logs)?;
-            *task = Task::Idle;
-            return Ok(Some(answer));
+    if let Task::Read(t) = task {
+        if t.fetched < t.runs.len() {
+            fetch_next(t, logs);
+            return Ok(None);
         }
-        Task::Send(_) => unreachable!(),
-        Task::Idle => {}
+        let answer = finish(alloc, t, p, client, logs)?;
+        *task = Task::Idle;
+        return Ok(Some(answer));
     }
     if !client.files.is_open(p) {
         return Ok(Some(Answer::BadF));

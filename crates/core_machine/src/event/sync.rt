@@ -1,6 +1,6 @@
 //! A sync: the client's pending writes become part of the file.
 
-ghost use Rattle.std.specs.Prelude.{◌≡◌, ℕ, List, [], None, IfOk};
+ghost use Rattle.std.specs.Prelude.{◌≡◌, ℕ, List, [], IfOk};
 ghost use Rattle.core_machine.specs.Books.{ChangesOne};
 ghost use Rattle.client_files.specs.declared.noted.Noted.{Noted};
 ghost use Rattle.owner_book.specs.Kept.{path_in};
@@ -48,7 +48,7 @@ pub fn sync<D: SpillDev + Drop>(
         → IfOk result (λ a. EndsLine s n Op.Sync
         (owned_of (path_in book.old gfid p.now) told) (own_of client.old p.now lines) logs.old
         (owned_of (path_in book.new gfid p.now) told)
-        (own_of client.new p.now (after_answer Op.Sync a n lines)) logs.new None a) }
+        (own_of client.new p.now (after_answer Op.Sync a n lines)) logs.new a) }
     ensures others { ChangesOne book.old book.new gfid p.now }
     ensures elsewhere { ChangesOwn client.old client.new p.now }
 {

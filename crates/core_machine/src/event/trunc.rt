@@ -1,7 +1,7 @@
 //! A truncation: the client's pending writes become part of the file, which is then cut or extended
 //! with zeros.
 
-ghost use Rattle.std.specs.Prelude.{◌≡◌, ◌≤◌, ℕ, List, [], None, IfOk};
+ghost use Rattle.std.specs.Prelude.{◌≡◌, ◌≤◌, ℕ, List, [], IfOk};
 ghost use Rattle.fs_types.specs.declared.limits.TheConstants.{LONGEST_FILE};
 ghost use Rattle.core_machine.specs.Books.{ChangesOne};
 ghost use Rattle.client_files.specs.declared.noted.Noted.{Noted};
@@ -52,7 +52,7 @@ pub fn trunc<D: SpillDev + Drop>(
         → IfOk result (λ a. EndsLine s n (Op.Trunc size)
         (owned_of (path_in book.old gfid p.now) told) (own_of client.old p.now lines) logs.old
         (owned_of (path_in book.new gfid p.now) told)
-        (own_of client.new p.now (after_answer (Op.Trunc size) a n lines)) logs.new None a) }
+        (own_of client.new p.now (after_answer (Op.Trunc size) a n lines)) logs.new a) }
     ensures others { ChangesOne book.old book.new gfid p.now }
     ensures elsewhere { ChangesOwn client.old client.new p.now }
 {

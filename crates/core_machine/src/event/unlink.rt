@@ -7,7 +7,7 @@ ghost use Rattle.owner_book.specs.Kept.{path_in};
 ghost use Rattle.core_machine.specs.ClientPath.{ChangesOwn, own_of};
 ghost use Rattle.core_machine.specs.Follows.{EndsLine, EventSound};
 ghost use Rattle.core_machine.specs.Kept.{owned_of};
-ghost use Rattle.fs_script.specs.Vocabulary.{Job, after_answer, done_at};
+ghost use Rattle.fs_script.specs.Vocabulary.{Job, after_answer};
 
 use super::emptying::{drop_pending, finish_commit};
 use crate::books::Book;
@@ -48,7 +48,7 @@ pub fn unlink<D: SpillDev + Drop>(
         → IfOk result (λ a. EndsLine s n Op.Unlink
         (owned_of (path_in book.old gfid p.now) told) (own_of client.old p.now lines) logs.old
         (owned_of (path_in book.new gfid p.now) told)
-        (own_of client.new p.now (after_answer Op.Unlink a n lines)) logs.new (done_at a) a) }
+        (own_of client.new p.now (after_answer Op.Unlink a n lines)) logs.new a) }
     ensures others { ChangesOne book.old book.new gfid p.now }
     ensures elsewhere { ChangesOwn client.old client.new p.now }
 {

@@ -1,9 +1,7 @@
-mod broadcasts;
 mod cases;
 mod frozen;
 mod lives;
 
-use self::broadcasts::BROADCASTS;
 use self::cases::RUNS;
 use self::frozen::FROZEN_FILES;
 use self::lives::LIVES;
@@ -16,12 +14,7 @@ use std::test::Fail;
 #[test]
 fn a_run_under_picks_has_its_report(rt: HostRuntime) -> Result<(), Fail> {
     let alloc = rt.alloc();
-    for cases in [
-        RUNS.as_slice(),
-        LIVES.as_slice(),
-        FROZEN_FILES.as_slice(),
-        BROADCASTS.as_slice(),
-    ] {
+    for cases in [RUNS.as_slice(), LIVES.as_slice(), FROZEN_FILES.as_slice()] {
         for (i, (text, picks, output)) in cases.iter().enumerate() {
             let script = read_script(alloc, text)
                 .ok()

@@ -1,13 +1,12 @@
 -- Each operation's event, for a client in the midst of nothing, or of a read.
 use Rattle.fs_types.proofs.Common.{refl, subst}
 use Rattle.fs_script.specs.Grammar.{IsOp}
-use Rattle.fs_script.specs.AnswerKinds.{done_at}
 use Rattle.fs_script.proofs.CallerLemmas.{IsOpLine-from_job}
 use Rattle.fs_script.specs.declared.line.Op.TheVariants.{Create, Laminate, Open, Size, Sync, Trunc, Unlink, Write}
 use Rattle.client_files.specs.Kept.{told_in}
 use Rattle.core_machine.specs.ClientPath.{own_of}
 use Rattle.core_machine.specs.Kept.{owned_in}
-use Rattle.core_machine.proofs.EventsEnd.{event-idle, follows-line, follows-quiet, follows-told, sound-idle, whole-over, whole-then}
+use Rattle.core_machine.proofs.EventsEnd.{event-idle, follows-line, follows-quiet, sound-idle, whole-then}
 use Rattle.core_machine.proofs.event.event.Goals as goal
 
 -- an operation of a job cuts no file past the longest one
@@ -99,42 +98,40 @@ returns-in_ok-trunc-in-Trunc-clause-whole g c = rw c.in-Trunc.is (λ lines sound
     (c.in_ok-trunc-in-Trunc.ensures.done c.args.s.now lines (told_in c.args.board.now c.args.o.now.path) c.args.o.now.rank
     (sound-idle c.args.s.now c.args.n (Trunc c.in-Trunc.size) c.args.o.now.rank x k c.args.logs.now c.args.task.now refl sound)).sound)
 
-pub returns-in_ok-answer-in-Laminate-clause-follows : goal.returns-in_ok-answer-in-Laminate-clause-follows
-returns-in_ok-answer-in-Laminate-clause-follows g c = rw c.in-Laminate.is (λ lines sound.
+pub returns-in_ok-laminate-in-Laminate-clause-follows : goal.returns-in_ok-laminate-in-Laminate-clause-follows
+returns-in_ok-laminate-in-Laminate-clause-follows g c = rw c.in-Laminate.is (λ lines sound.
     let x = owned_in c.args.book.now c.args.gfid c.args.o.now.path c.args.board.now in
     let k = own_of c.args.client.now c.args.o.now.path lines in
-    follows-told c.args.s.now c.args.n Laminate c.args.o.now.rank x k c.args.logs.now c.args.task.now refl sound
-    (owned_in c.laminate.new.book c.args.gfid c.args.o.now.path c.args.board.now) _ c.in_ok-answer-in-Laminate.answer c.tell_others.result
-    (done_at c.in_ok-answer-in-Laminate.answer) c.laminate.new.logs c.tell_others.ensures.over c.tell_others.ensures.sends
-    (c.in_ok-answer-in-Laminate.ensures.done c.args.s.now lines (told_in c.args.board.now c.args.o.now.path) c.args.o.now.rank
+    follows-line c.args.s.now c.args.n Laminate c.args.o.now.rank x k c.args.logs.now c.args.task.now refl sound
+    (owned_in c.laminate.new.book c.args.gfid c.args.o.now.path c.args.board.now) _ c.in_ok-laminate-in-Laminate.field-0 c.laminate.new.logs
+    (c.in_ok-laminate-in-Laminate.ensures.done c.args.s.now lines (told_in c.args.board.now c.args.o.now.path) c.args.o.now.rank
     (sound-idle c.args.s.now c.args.n Laminate c.args.o.now.rank x k c.args.logs.now c.args.task.now refl sound)))
 
-pub returns-in_ok-answer-in-Laminate-clause-whole : goal.returns-in_ok-answer-in-Laminate-clause-whole
-returns-in_ok-answer-in-Laminate-clause-whole g c = rw c.in-Laminate.is (λ lines sound.
+pub returns-in_ok-laminate-in-Laminate-clause-whole : goal.returns-in_ok-laminate-in-Laminate-clause-whole
+returns-in_ok-laminate-in-Laminate-clause-whole g c = rw c.in-Laminate.is (λ lines sound.
     let x = owned_in c.args.book.now c.args.gfid c.args.o.now.path c.args.board.now in
     let k = own_of c.args.client.now c.args.o.now.path lines in
-    whole-over c.args.s.now Laminate (owned_in c.laminate.new.book c.args.gfid c.args.o.now.path c.args.board.now) _ c.laminate.new.logs
-    c.tell_others.result c.tell_others.ensures.over
-    (c.in_ok-answer-in-Laminate.ensures.done c.args.s.now lines (told_in c.args.board.now c.args.o.now.path) c.args.o.now.rank
+    whole-then c.args.s.now c.args.n Laminate c.args.o.now.rank x k c.args.logs.now c.args.task.now refl sound
+    (owned_in c.laminate.new.book c.args.gfid c.args.o.now.path c.args.board.now) _ c.in_ok-laminate-in-Laminate.field-0 c.laminate.new.logs
+    (c.in_ok-laminate-in-Laminate.ensures.done c.args.s.now lines (told_in c.args.board.now c.args.o.now.path) c.args.o.now.rank
     (sound-idle c.args.s.now c.args.n Laminate c.args.o.now.rank x k c.args.logs.now c.args.task.now refl sound)).sound)
 
-pub returns-in_ok-answer-in-Unlink-clause-follows : goal.returns-in_ok-answer-in-Unlink-clause-follows
-returns-in_ok-answer-in-Unlink-clause-follows g c = rw c.in-Unlink.is (λ lines sound.
+pub returns-in_ok-unlink-in-Unlink-clause-follows : goal.returns-in_ok-unlink-in-Unlink-clause-follows
+returns-in_ok-unlink-in-Unlink-clause-follows g c = rw c.in-Unlink.is (λ lines sound.
     let x = owned_in c.args.book.now c.args.gfid c.args.o.now.path c.args.board.now in
     let k = own_of c.args.client.now c.args.o.now.path lines in
-    follows-told c.args.s.now c.args.n Unlink c.args.o.now.rank x k c.args.logs.now c.args.task.now refl sound
-    (owned_in c.unlink.new.book c.args.gfid c.args.o.now.path c.args.board.now) _ c.in_ok-answer-in-Unlink.answer c.tell_others-in-Unlink.result
-    (done_at c.in_ok-answer-in-Unlink.answer) c.unlink.new.logs c.tell_others-in-Unlink.ensures.over c.tell_others-in-Unlink.ensures.sends
-    (c.in_ok-answer-in-Unlink.ensures.done c.args.s.now lines (told_in c.args.board.now c.args.o.now.path) c.args.o.now.rank
+    follows-line c.args.s.now c.args.n Unlink c.args.o.now.rank x k c.args.logs.now c.args.task.now refl sound
+    (owned_in c.unlink.new.book c.args.gfid c.args.o.now.path c.args.board.now) _ c.in_ok-unlink-in-Unlink.field-0 c.unlink.new.logs
+    (c.in_ok-unlink-in-Unlink.ensures.done c.args.s.now lines (told_in c.args.board.now c.args.o.now.path) c.args.o.now.rank
     (sound-idle c.args.s.now c.args.n Unlink c.args.o.now.rank x k c.args.logs.now c.args.task.now refl sound)))
 
-pub returns-in_ok-answer-in-Unlink-clause-whole : goal.returns-in_ok-answer-in-Unlink-clause-whole
-returns-in_ok-answer-in-Unlink-clause-whole g c = rw c.in-Unlink.is (λ lines sound.
+pub returns-in_ok-unlink-in-Unlink-clause-whole : goal.returns-in_ok-unlink-in-Unlink-clause-whole
+returns-in_ok-unlink-in-Unlink-clause-whole g c = rw c.in-Unlink.is (λ lines sound.
     let x = owned_in c.args.book.now c.args.gfid c.args.o.now.path c.args.board.now in
     let k = own_of c.args.client.now c.args.o.now.path lines in
-    whole-over c.args.s.now Unlink (owned_in c.unlink.new.book c.args.gfid c.args.o.now.path c.args.board.now) _ c.unlink.new.logs
-    c.tell_others-in-Unlink.result c.tell_others-in-Unlink.ensures.over
-    (c.in_ok-answer-in-Unlink.ensures.done c.args.s.now lines (told_in c.args.board.now c.args.o.now.path) c.args.o.now.rank
+    whole-then c.args.s.now c.args.n Unlink c.args.o.now.rank x k c.args.logs.now c.args.task.now refl sound
+    (owned_in c.unlink.new.book c.args.gfid c.args.o.now.path c.args.board.now) _ c.in_ok-unlink-in-Unlink.field-0 c.unlink.new.logs
+    (c.in_ok-unlink-in-Unlink.ensures.done c.args.s.now lines (told_in c.args.board.now c.args.o.now.path) c.args.o.now.rank
     (sound-idle c.args.s.now c.args.n Unlink c.args.o.now.rank x k c.args.logs.now c.args.task.now refl sound)).sound)
 
 pub returns-in_ok-write-in-Write-clause-follows : goal.returns-in_ok-write-in-Write-clause-follows
@@ -156,9 +153,9 @@ returns-in_ok-write-in-Write-clause-whole g c = rw c.in-Write.is (λ lines sound
 pub returns-in-Read-clause-follows : goal.returns-in-Read-clause-follows
 returns-in-Read-clause-follows g c = rw c.in-Read.is (λ lines sound.
     c.read.ensures.follows c.args.s.now lines (told_in c.args.board.now c.args.o.now.path) c.args.n c.args.o.now.rank
-    (record { whole = sound.whole; quiet = sound.quiet; stand = sound.stand; memory = sound.memory }))
+    (record { whole = sound.whole; stand = sound.stand; memory = sound.memory }))
 
 pub returns-in-Read-clause-whole : goal.returns-in-Read-clause-whole
 returns-in-Read-clause-whole g c = rw c.in-Read.is (λ lines sound.
     c.read.ensures.whole c.args.s.now lines (told_in c.args.board.now c.args.o.now.path) c.args.n
-    (record { whole = sound.whole; quiet = sound.quiet; stand = sound.stand; memory = sound.memory }))
+    (record { whole = sound.whole; stand = sound.stand; memory = sound.memory }))

@@ -7,26 +7,26 @@ use Rattle.core_machine.specs.declared.run.Run.{Run}
 use Rattle.core_machine.proofs.Refines.Goes.{IsRun-on, nearer, ready-going}
 use Rattle.core_machine.proofs.run.advance.Goals as goal
 
-pub event_of_client-requires-clause-unspent : goal.event_of_client-requires-clause-unspent
-event_of_client-requires-clause-unspent g c =
+pub event_of_line-requires-clause-unspent : goal.event_of_line-requires-clause-unspent
+event_of_line-requires-clause-unspent g c =
     let r = c.args.run.now in
     (ready-going r.script.now r.paths (states r) r.answers r.tasks.items r.logs.items r.spent c.args.r c.requires.run.holds
     c.requires.run.phases c.requires.ready).0
 
-pub event_of_client-requires-clause-going : goal.event_of_client-requires-clause-going
-event_of_client-requires-clause-going g c =
+pub event_of_line-requires-clause-going : goal.event_of_line-requires-clause-going
+event_of_line-requires-clause-going g c =
     let r = c.args.run.now in
     (ready-going r.script.now r.paths (states r) r.answers r.tasks.items r.logs.items r.spent c.args.r c.requires.run.holds
     c.requires.run.phases c.requires.ready).1
 
 pub go_on-requires-clause-gfids : goal.go_on-requires-clause-gfids
-go_on-requires-clause-gfids g c = subst (λ (x : Run g.row.D.Denot). AreGfids x.script.now x.gfids) (sym c.event_of_client.ensures.rest)
+go_on-requires-clause-gfids g c = subst (λ (x : Run g.row.D.Denot). AreGfids x.script.now x.gfids) (sym c.event_of_line.ensures.rest)
     c.requires.run.gfids
 
 pub go_on-requires-clause-going : goal.go_on-requires-clause-going
 go_on-requires-clause-going g c =
     let r = c.args.run.now in
-    subst (λ (x : Run g.row.D.Denot). Contains (going x.turns) c.args.r) (sym c.event_of_client.ensures.rest)
+    subst (λ (x : Run g.row.D.Denot). Contains (going x.turns) c.args.r) (sym c.event_of_line.ensures.rest)
     (ready-going r.script.now r.paths (states r) r.answers r.tasks.items r.logs.items r.spent c.args.r c.requires.run.holds
     c.requires.run.phases c.requires.ready).1
 
@@ -45,7 +45,7 @@ went-on {old = old} new k run may same then =
 pub returns-in-Ok-false-clause-run : goal.returns-in-Ok-false-clause-run
 returns-in-Ok-false-clause-run g c =
     let e = c.in-Ok-false.ensures in
-    let new = c.event_of_client.new.run in
+    let new = c.event_of_line.new.run in
     let k = c.args.r in
     let then = went-on new k c.requires.run c.requires.ready (ap (λ (x : Run g.row.D.Denot). x.spent) e.rest)
     (subst (λ b. moment_then k new b ≡ step (moment c.args.run.now) (record { client = k })) c.in-Ok-false.field-0-test e.step) in
@@ -59,7 +59,7 @@ pub returns-in-Ok-false-clause-nearer : goal.returns-in-Ok-false-clause-nearer
 returns-in-Ok-false-clause-nearer g c =
     let k = c.args.r in
     let e = c.in-Ok-false.ensures in
-    let new = c.event_of_client.new.run in
+    let new = c.event_of_line.new.run in
     nearer k c.requires.run c.requires.ready (moment new) (went-on new k c.requires.run c.requires.ready
     (ap (λ (x : Run g.row.D.Denot). x.spent) e.rest)
     (subst (λ b. moment_then k new b ≡ step (moment c.args.run.now) (record { client = k })) c.in-Ok-false.field-0-test e.step))
@@ -68,7 +68,7 @@ pub returns-in_default-clause-run : goal.returns-in_default-clause-run
 returns-in_default-clause-run g c =
     let e = c.in-Ok-true.ensures in
     let f = c.in_default.ensures in
-    let mid = c.event_of_client.new.run in
+    let mid = c.event_of_line.new.run in
     IsRun-on c.args.r c.requires.run c.requires.ready
     (ap (λ (x : Run g.row.D.Denot). x.script) f.rest ∙ ap (λ (x : Run g.row.D.Denot). x.script) e.rest)
     (ap (λ (x : Run g.row.D.Denot). x.gfids) f.rest ∙ ap (λ (x : Run g.row.D.Denot). x.gfids) e.rest)
@@ -79,6 +79,6 @@ returns-in_default-clause-run g c =
 
 pub returns-in_default-clause-nearer : goal.returns-in_default-clause-nearer
 returns-in_default-clause-nearer g c =
-    let mid = c.event_of_client.new.run in
+    let mid = c.event_of_line.new.run in
     nearer c.args.r c.requires.run c.requires.ready (moment c.go_on.new.run) (c.in_default.ensures.moment
     ∙ subst (λ b. moment_then c.args.r mid b ≡ step (moment c.args.run.now) (record { client = c.args.r })) c.in-Ok-true.field-0-test c.in-Ok-true.ensures.step)

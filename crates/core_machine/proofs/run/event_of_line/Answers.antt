@@ -1,17 +1,15 @@
 use Rattle.fs_types.proofs.Common.{◌≡◌, ◌∙◌, ℕ, List, Option, Some, Contains, sym, ap, subst, arith, none-some, option_copied, length}
-use Rattle.fs_types.proofs.Common.{with_items, with_items_is, Bool, false, get_or, is_some, not, refl}
+use Rattle.fs_types.proofs.Common.{with_items, with_items_is, false, refl}
 use Rattle.slot_plain.specs.Log.{Log}
 use Rattle.fs_script.specs.Vocabulary.{Answer, Given, op_at, put_answer}
 use Rattle.fs_script.proofs.CallerLemmas.{op_at-within, program-op}
 use Rattle.core_machine.specs.Core.{IsRun, states}
 use Rattle.core_machine.specs.Follows.{FollowsAt, IsSoundAt}
-use Rattle.core_machine.specs.Standing.{SendsNothing}
 use Rattle.core_machine.specs.PathStates.{AreKept, AreToldBut, states_in}
-use Rattle.core_machine.specs.Vocabulary.{Book, Holds, KeptClient, OpLine, PlainHold, Task, going, moment_of, next_in, sends_of, step, turns_then}
+use Rattle.core_machine.specs.Vocabulary.{Book, Holds, KeptClient, OpLine, PlainHold, Task, after_line, going, moment_of, next_in, step}
 use Rattle.core_machine.specs.declared.run.Run.{Run}
-use Rattle.core_machine.proofs.Refines.DoneLines.{is_over}
-use Rattle.core_machine.proofs.Refines.Goes.{goes-kept, going-within}
-use Rattle.core_machine.proofs.Refines.LineEvents.{NextLine, ended-is, follows, turns_now, holds-line, lines, sound-line, step-line, told-on, told-quiet, told-then}
+use Rattle.core_machine.proofs.Refines.Goes.{goes-kept}
+use Rattle.core_machine.proofs.Refines.LineEvents.{NextLine, holds-line, lines, sound-line, step-line, told-on, told-quiet, told-then}
 use Rattle.core_machine.proofs.run.event_of_line.Goals as goal
 
 pub unreachable-requires : goal.unreachable-requires
@@ -23,11 +21,11 @@ unreachable-requires g c =
 
 -- the next line of a client of a run that goes on
 abbrev line-of : {D : Type 0} {r : Run D} (k n : ℕ) (o : OpLine) → IsRun r → r.spent ≡ false → Contains (going r.turns) k
-    → SendsNothing r.tasks.items k → next_in r.turns k ≡ Some n → op_at r.script.now n ≡ Some o
+    → next_in r.turns k ≡ Some n → op_at r.script.now n ≡ Some o
     → NextLine r.script.now r.paths r.books.items r.board r.clients.items r.answers r.turns r.tasks.items r.logs.items k
-line-of {r = r} k n o run unspent has quiet next is =
+line-of {r = r} k n o run unspent has next is =
     let held = run.holds unspent in
-    record { kept = run.kept; held = held; number = n; line = o; goes = goes-kept k n held has next; quiet = quiet; is = is }
+    record { kept = run.kept; held = held; number = n; line = o; goes = goes-kept k n held has next; is = is }
 
 -- its event follows in the run, where it follows in what was lent of that
 module _ {D : Type 0} (r : Run D) {k : ℕ} (t : NextLine r.script.now r.paths r.books.items r.board r.clients.items r.answers r.turns
@@ -49,17 +47,9 @@ module _ {D : Type 0} (r : Run D) {k : ℕ} (t : NextLine r.script.now r.paths r
       subst (λ (X : Type 0). X) (λ i. FollowsAt o.path r.script.now t.number o.op o.rank (vb i) (sym wb i) r.board (vc i) (sym wc i)
       (vu i) (sym wu i) (vl i) (sym wl i) ls (is i)) (follows ls sound)
 
-  -- whether the client is over with the line, where it was answered
-  ended-of : {b' : List (Book PlainHold)} {c' : List KeptClient} {u' : List Task} {l' : List Log} {a : Option Answer}
-      (f : FollowsAt t.line.path r.script.now t.number t.line.op t.line.rank r.books.items b' r.board r.clients.items c' r.tasks.items u'
-      r.logs.items l' (lines t k t.line.path) a) (answer : Answer) (i : ℕ) (d : Task) (sends : Bool) → a ≡ Some answer → i ≡ k
-      → d ≡ get_or u' i d → sends ≡ is_some (sends_of d) → not sends ≡ is_over a (follows t f).task_now
-  ended-of {u' = u'} f answer i d sends is same here says =
-      ap not says ∙ ap (λ v. not (is_some (sends_of v))) here ∙ ended-is t f answer is i d same
-
 pub event_on_path-requires-clause-sound : goal.event_on_path-requires-clause-sound
 event_on_path-requires-clause-sound g c =
-    let t = line-of c.args.r c.next-n.result c.in-Some.o.now c.requires.run c.requires.unspent c.requires.going c.requires.quiet c.next-n.ensures.next
+    let t = line-of c.args.r c.next-n.result c.in-Some.o.now c.requires.run c.requires.unspent c.requires.going c.next-n.ensures.next
     (sym c.operation.ensures ∙ ap option_copied c.in-Some.is) in
     rw (c.deref_mut.ensures.value, c.deref_mut-2.ensures.value, c.deref_mut-3.ensures.value, c.deref_mut-4.ensures.value)
     (lines t c.args.r c.in-Some.o.now.path, sound-line t)
@@ -70,14 +60,6 @@ set-requires-clause-within g c =
     let inside = op_at-within r.script.now c.next-n.result c.in-Some.o.now (sym c.operation.ensures ∙ ap option_copied c.in-Some.is) in
     omega (arith, inside.1, (c.requires.run.holds c.requires.unspent).room)
 
-pub index-requires : goal.index-requires
-index-requires g c =
-    let held = c.requires.run.holds c.requires.unspent in
-    let within = going-within c.args.r held c.requires.going in
-    let many = held.tasked in
-    let size = c.args.run.now.tasks.ok.0 in
-    omega (arith, within, many, size, c.r.view_is)
-
 -- the line went on
 pub returns-in-None : goal.returns-in-None
 returns-in-None g c =
@@ -87,7 +69,7 @@ returns-in-None g c =
     let clients = with_items_is r.clients new.clients (c.event_on_path.auto.clients ∙ c.deref_mut-2.ensures.len) in
     let tasks = with_items_is r.tasks new.tasks (c.event_on_path.auto.tasks ∙ c.deref_mut-3.ensures.len) in
     let logs = with_items_is r.logs new.logs (c.event_on_path.auto.logs ∙ c.deref_mut-4.ensures.len) in
-    let t = line-of c.args.r c.next-n.result c.in-Some.o.now c.requires.run c.requires.unspent c.requires.going c.requires.quiet c.next-n.ensures.next
+    let t = line-of c.args.r c.next-n.result c.in-Some.o.now c.requires.run c.requires.unspent c.requires.going c.next-n.ensures.next
     (sym c.operation.ensures ∙ ap option_copied c.in-Some.is) in
     let f = follows-lent r t c.deref_mut.ensures.value c.deref_mut-2.ensures.value c.deref_mut-3.ensures.value c.deref_mut-4.ensures.value
     books clients tasks logs c.in-None.is c.in_ok-answer.ensures.follows in
@@ -110,26 +92,21 @@ returns-in_ok-push-in-Some-answer g c =
     let clients = with_items_is r.clients new.clients (c.event_on_path.auto.clients ∙ c.deref_mut-2.ensures.len) in
     let tasks = with_items_is r.tasks new.tasks (c.event_on_path.auto.tasks ∙ c.deref_mut-3.ensures.len) in
     let logs = with_items_is r.logs new.logs (c.event_on_path.auto.logs ∙ c.deref_mut-4.ensures.len) in
-    let t = line-of c.args.r c.next-n.result c.in-Some.o.now c.requires.run c.requires.unspent c.requires.going c.requires.quiet c.next-n.ensures.next
+    let t = line-of c.args.r c.next-n.result c.in-Some.o.now c.requires.run c.requires.unspent c.requires.going c.next-n.ensures.next
     (sym c.operation.ensures ∙ ap option_copied c.in-Some.is) in
     let f = follows-lent r t c.deref_mut.ensures.value c.deref_mut-2.ensures.value c.deref_mut-3.ensures.value c.deref_mut-4.ensures.value
     books clients tasks logs c.in-Some-answer.is c.in_ok-answer.ensures.follows in
     let answers : record { lines = r.answers.lines; list = put_answer c.next-n.result c.in-Some-answer.answer r.answers.list } ≡ c.set.new.self =
     λ i. record { lines = sym c.set.ensures.lines i; list = sym c.set.ensures.list i } in
     let then = λ (a : Given). states_in r.script.now (with_items r.books new.books).items r.board (with_items r.clients new.clients).items a r.paths in
-    let ended = ended-of r t f c.in-Some-answer.answer c.r.inside.0 c.index.result.now c.sends-ended.result refl c.r.view_is c.index.ensures c.sends-ended.ensures in
     record {
       kept = subst (λ (X : Type 0). X) (λ i. AreKept r.script.now (sym books i) (sym clients i)) c.event_on_path.ensures.kept;
       sized = ap length logs ∙ c.event_on_path.auto.logs ∙ ap length c.deref_mut-4.ensures.value;
       told = subst (λ (ls : List ℕ). AreToldBut r.script.now ls r.board (with_items r.books new.books).items)
           (sym c.in_ok-push-in-Some-answer.ensures.items) (told-then t f (c.requires.run.told c.requires.unspent));
-      holds = subst (λ b. Holds r.script.now r.paths (then c.set.new.self) c.set.new.self (turns_then b c.args.r r.turns)
-          (with_items r.tasks new.tasks).items (with_items r.logs new.logs).items) (sym ended)
-          (subst (λ (a : Given). Holds r.script.now r.paths (then a) a (turns_now t f) (with_items r.tasks new.tasks).items
-          (with_items r.logs new.logs).items) answers (holds-line t f));
-      step = ap (λ b. moment_of r.script.now r.paths (then c.set.new.self) c.set.new.self (turns_then b c.args.r r.turns)
-          (with_items r.tasks new.tasks).items (with_items r.logs new.logs).items false) ended
-          ∙ ap (λ (a : Given). moment_of r.script.now r.paths (then a) a (turns_now t f) (with_items r.tasks new.tasks).items
+      holds = subst (λ (a : Given). Holds r.script.now r.paths (then a) a (after_line r.turns c.args.r) (with_items r.tasks new.tasks).items
+          (with_items r.logs new.logs).items) answers (holds-line t f);
+      step = ap (λ (a : Given). moment_of r.script.now r.paths (then a) a (after_line r.turns c.args.r) (with_items r.tasks new.tasks).items
           (with_items r.logs new.logs).items false) (sym answers) ∙ step-line t f
           ∙ ap (λ b. step (moment_of r.script.now r.paths (states r) r.answers r.turns r.tasks.items r.logs.items b)
           (record { client = c.args.r })) (sym c.requires.unspent);
@@ -145,25 +122,20 @@ returns-else-may_commit g c =
     let clients = with_items_is r.clients new.clients (c.event_on_path.auto.clients ∙ c.deref_mut-2.ensures.len) in
     let tasks = with_items_is r.tasks new.tasks (c.event_on_path.auto.tasks ∙ c.deref_mut-3.ensures.len) in
     let logs = with_items_is r.logs new.logs (c.event_on_path.auto.logs ∙ c.deref_mut-4.ensures.len) in
-    let t = line-of c.args.r c.next-n.result c.in-Some.o.now c.requires.run c.requires.unspent c.requires.going c.requires.quiet c.next-n.ensures.next
+    let t = line-of c.args.r c.next-n.result c.in-Some.o.now c.requires.run c.requires.unspent c.requires.going c.next-n.ensures.next
     (sym c.operation.ensures ∙ ap option_copied c.in-Some.is) in
     let f = follows-lent r t c.deref_mut.ensures.value c.deref_mut-2.ensures.value c.deref_mut-3.ensures.value c.deref_mut-4.ensures.value
     books clients tasks logs c.in-Some-answer.is c.in_ok-answer.ensures.follows in
     let answers : record { lines = r.answers.lines; list = put_answer c.next-n.result c.in-Some-answer.answer r.answers.list } ≡ c.set.new.self =
     λ i. record { lines = sym c.set.ensures.lines i; list = sym c.set.ensures.list i } in
     let then = λ (a : Given). states_in r.script.now (with_items r.books new.books).items r.board (with_items r.clients new.clients).items a r.paths in
-    let ended = ended-of r t f c.in-Some-answer.answer c.r.inside.0 c.index.result.now c.sends-ended.result refl c.r.view_is c.index.ensures c.sends-ended.ensures in
     record {
       kept = subst (λ (X : Type 0). X) (λ i. AreKept r.script.now (sym books i) (sym clients i)) c.event_on_path.ensures.kept;
       sized = ap length logs ∙ c.event_on_path.auto.logs ∙ ap length c.deref_mut-4.ensures.value;
       told = told-quiet t f c.in-Some-answer.answer refl (sym (c.if-may_commit.ensures 0)) (c.requires.run.told c.requires.unspent);
-      holds = subst (λ b. Holds r.script.now r.paths (then c.set.new.self) c.set.new.self (turns_then b c.args.r r.turns)
-          (with_items r.tasks new.tasks).items (with_items r.logs new.logs).items) (sym ended)
-          (subst (λ (a : Given). Holds r.script.now r.paths (then a) a (turns_now t f) (with_items r.tasks new.tasks).items
-          (with_items r.logs new.logs).items) answers (holds-line t f));
-      step = ap (λ b. moment_of r.script.now r.paths (then c.set.new.self) c.set.new.self (turns_then b c.args.r r.turns)
-          (with_items r.tasks new.tasks).items (with_items r.logs new.logs).items false) ended
-          ∙ ap (λ (a : Given). moment_of r.script.now r.paths (then a) a (turns_now t f) (with_items r.tasks new.tasks).items
+      holds = subst (λ (a : Given). Holds r.script.now r.paths (then a) a (after_line r.turns c.args.r) (with_items r.tasks new.tasks).items
+          (with_items r.logs new.logs).items) answers (holds-line t f);
+      step = ap (λ (a : Given). moment_of r.script.now r.paths (then a) a (after_line r.turns c.args.r) (with_items r.tasks new.tasks).items
           (with_items r.logs new.logs).items false) (sym answers) ∙ step-line t f
           ∙ ap (λ b. step (moment_of r.script.now r.paths (states r) r.answers r.turns r.tasks.items r.logs.items b)
           (record { client = c.args.r })) (sym c.requires.unspent);

@@ -296,7 +296,7 @@ pub const LIVES: [Case; 7] = [
     ),
     (
         UNLINKED_UNDER_A_WRITER,
-        &[0, 0, 0, 1, 1, 1, 1, 1, 1, 1, 0, 0, 0, 0, 0, 0],
+        &[0, 0, 0, 1, 1, 1, 1, 1, 1, 1, 0],
         UNLINKED_UNDER_A_WRITER_REPORT,
     ),
 ];

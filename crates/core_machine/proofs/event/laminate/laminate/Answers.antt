@@ -4,7 +4,6 @@ use Rattle.fs_types.proofs.Common.{◌≡◌, ◌∙◌, ℕ, List, [], arith, c
 use Rattle.std.proofs.lemmas.Result.{on_ok_weaker}
 use Rattle.fs_types.specs.declared.answer.Answer.TheVariants as answers
 use Rattle.fs_script.specs.Vocabulary.{Job}
-use Rattle.fs_script.specs.AnswerKinds.{done_at}
 use Rattle.fs_script.specs.declared.line.Op.TheVariants.{Laminate}
 use Rattle.client_files.specs.declared.noted.Noted.{Noted}
 use Rattle.owner_book.specs.Laminations.{with_lamination}
@@ -69,7 +68,6 @@ module _ (g : Over) (c : In-Ok g) (s : Job) (lines : List ℕ) (told : Noted) (r
     (own_of c.args.client.now c.args.p.now lines) c.args.logs.now)) where
   commits : CommitsLine s c.args.n Laminate (path_in c.args.book.now c.args.gfid c.args.p.now)
       (path_in c.laminate.new.self c.args.gfid c.args.p.now) told (own_of c.args.client.now c.args.p.now lines) c.in-Ok.done.dead.items
-      done_at
   commits =
       let k = own_of c.args.client.now c.args.p.now lines in
       let x = path_in c.args.book.now c.args.gfid c.args.p.now in

@@ -1,7 +1,6 @@
 -- The events of a read: one that looks up and begins, or finds no open path or no file, one for each run, and the one that shows.
 use Rattle.std.proofs.Common.{◌≡◌, ◌∙◌, ap, refl, sym, subst, length, ℕ, arith, true, false, ◌≤◌, ◌<◌, List}
 use Rattle.std.proofs.lemmas.Grind.{common_steps}
-use Rattle.std.proofs.lemmas.Option.{none-some}
 use Rattle.fs_script.specs.Vocabulary.{Job, shown}
 use Rattle.fs_script.specs.declared.line.Op.TheVariants.{Read}
 use Rattle.fs_types.specs.declared.attr.Attr.{Attr}
@@ -16,7 +15,7 @@ use Rattle.core_machine.specs.Kept.{AreSound, owned_of, pending_hold}
 use Rattle.core_machine.specs.Logs.{HoldsStand}
 use Rattle.core_machine.specs.Pins.{either_hold}
 use Rattle.core_machine.specs.Reads.{BeginsRead, found_hold, marks_seen}
-use Rattle.core_machine.specs.Task.{IsTask, sends_of, task_hold}
+use Rattle.core_machine.specs.Task.{IsTask, task_hold}
 use Rattle.core_machine.proofs.EventsFollow.{same-sound, told-none}
 use Rattle.core_machine.proofs.LookedUp.{IsAsBefore-looked, IsAsBefore-tried}
 use Rattle.core_machine.proofs.ReadEvents.{EventFollows-absent, EventFollows-begun, EventFollows-closed}
@@ -25,10 +24,6 @@ use Rattle.core_machine.proofs.SeenMarks.{IsFoundFor, found-for, found-spans, se
 use Rattle.core_machine.proofs.event.read.read.Goals as goal
 use Rattle.core_machine.proofs.event.read.read.Goals.{In-Ok}
 use Rattle.core_machine.proofs.event.read.read.Given.{Over}
-
--- no server is left to be told of a line
-pub unreachable-requires : goal.unreachable-requires
-unreachable-requires g c = none-some _ (sym (sym (ap sends_of c.in-Send.is) ∙ c.requires.sound.3.quiet))
 
 pub fetch_next-requires-clause-task : goal.fetch_next-requires-clause-task
 fetch_next-requires-clause-task g c =
@@ -70,7 +65,7 @@ returns-in-Read-clause-follows g c = λ s lines told n r sound.
     let k = own_of c.args.client.now c.args.p.now lines in
     let all : length c.in-Read.t.runs.items ≤ c.in-Read.t.fetched =
     (let le = c.if-t-len.false in let size = c.len.ensures in let vec = c.in-Read.t.runs.ok.0 in omega (arith, le, size, vec)) in
-    rw (c.in-Read.is, c.in_ok-answer-in-Read.ensures.noted lines, c.in_ok-answer-in-Read.ensures.answer)
+    rw (c.in-Read.is, c.in_ok-answer.ensures.noted lines, c.in_ok-answer.ensures.answer)
     (EventFollows-shown s n r c.args.off c.args.len c.args.with_own x k c.args.logs.now c.finish.new.logs c.in-Read.t
     (subst (IsTask s) c.in-Read.is sound.whole.task) (subst (KeptStand s c.args.logs.now x k) c.in-Read.is sound.stand) all
     c.finish.ensures.slots)
@@ -80,7 +75,7 @@ returns-in-Read-clause-whole g c = λ s lines told n sound.
     let x = owned_of (path_in c.args.book.now c.args.gfid c.args.p.now) told in
     record {
       sound = same-sound s x (own_of c.args.client.now c.args.p.now lines) (own_of c.finish.new.client c.args.p.now lines)
-          (ap (λ (l : ClientPath). l.pending) (c.in_ok-answer-in-Read.ensures.noted lines)) sound.whole.sound;
+          (ap (λ (l : ClientPath). l.pending) (c.in_ok-answer.ensures.noted lines)) sound.whole.sound;
       task = tt;
       midst = tt;
     }
@@ -89,9 +84,9 @@ pub returns-then-not-is_open-clause-follows : goal.returns-then-not-is_open-clau
 returns-then-not-is_open-clause-follows g c = λ s lines told n r sound.
     let x = owned_of (path_in c.args.book.now c.args.gfid c.args.p.now) told in
     let k = own_of c.args.client.now c.args.p.now lines in
-    rw (c.in-Idle.is)
+    rw (c.in_default.is)
     (EventFollows-closed s n r c.args.off c.args.len c.args.with_own x k c.args.logs.now c.args.logs.now (sym c.if-not-is_open.ensures)
-    c.requires.held (subst (KeptStand s c.args.logs.now x k) c.in-Idle.is sound.stand))
+    c.requires.held (subst (KeptStand s c.args.logs.now x k) c.in_default.is sound.stand))
 
 pub returns-then-not-attr-clause-follows : goal.returns-then-not-attr-clause-follows
 returns-then-not-attr-clause-follows g c = λ s lines told n r sound.
@@ -99,9 +94,9 @@ returns-then-not-attr-clause-follows g c = λ s lines told n r sound.
     let k = own_of c.args.client.now c.args.p.now lines in
     let none : c.attr-v.result.1.exists ≡ false = grind (arith, common_steps) in
     let absent = told-none c.attr-v.result x.path c.attr-v.ensures.attr none in
-    rw (c.in-Idle.is, c.in_ok-note.ensures.noted lines, c.attr-v.ensures.attr)
+    rw (c.in_default.is, c.in_ok-note.ensures.noted lines, c.attr-v.ensures.attr)
     (EventFollows-absent s n r c.args.off c.args.len c.args.with_own x k c.args.logs.now c.args.logs.now (sym c.if-not-is_open.ensures) absent
-    c.requires.held (subst (KeptStand s c.args.logs.now x k) c.in-Idle.is sound.stand))
+    c.requires.held (subst (KeptStand s c.args.logs.now x k) c.in_default.is sound.stand))
 
 pub returns-then-not-attr-clause-whole : goal.returns-then-not-attr-clause-whole
 returns-then-not-attr-clause-whole g c = λ s lines told n sound.
@@ -170,9 +165,9 @@ returns-clause-follows g c = λ s lines told n r sound.
     let begins = c.in_ok-begin.ensures s marks (c.in_ok-seen.ensures.seen s lines is.file is.is_file is.found_in is.pending is.apart) in
     let same = IsAsBefore-looked c.args.book.now c.lookup.new.self c.args.gfid c.args.p.now _ sound.whole.sound.written
     c.lookup.ensures.others c.lookup.ensures.holds c.in-Ok.ensures.looked in
-    rw (c.in-Idle.is, same c.args.gfid c.args.p.now)
+    rw (c.in_default.is, same c.args.gfid c.args.p.now)
     (EventFollows-begun s n r c.args.off c.args.len c.args.with_own x k c.args.logs.now c.begin.new.logs is.file hold_at
-    c.in_ok-begin.field-0 (sym c.if-not-is_open.ensures) is.there (subst (KeptStand s c.args.logs.now x k) c.in-Idle.is sound.stand)
+    c.in_ok-begin.field-0 (sym c.if-not-is_open.ensures) is.there (subst (KeptStand s c.args.logs.now x k) c.in_default.is sound.stand)
     (seen-stand s c.args.logs.now x k c.args.off c.args.len c.in-Ok.found c.in_ok-seen.seen is c.in_ok-seen.ensures.holds)
     (subst (λ (v : ℕ). BeginsRead s marks v (attr x.path) hold_at c.in_ok-begin.field-0 c.args.logs.now c.begin.new.logs)
     (c.in_ok-seen.ensures.version ∙ c.in-Ok.ensures.version)

@@ -1,5 +1,5 @@
 -- What a sync leaves: the path as it was where it commits nothing, and else with the push of what was pending over its file.
-use Rattle.fs_types.proofs.Common.{None, ◌≡◌, ◌∙◌, ℕ, List, [], ap, arith, common_steps, false, false≢true, refl, sym, true}
+use Rattle.fs_types.proofs.Common.{◌≡◌, ◌∙◌, ℕ, List, [], ap, arith, common_steps, false, false≢true, refl, sym, true}
 use Rattle.std.proofs.lemmas.Result.{on_ok_weaker}
 use Rattle.fs_types.specs.declared.answer.Answer.TheVariants as answers
 use Rattle.fs_script.specs.Vocabulary.{Job}
@@ -82,7 +82,6 @@ module _ (g : Over) (c : In-Ok g) (s : Job) (lines : List ℕ) (told : Noted) (r
     (own_of c.args.client.now c.args.p.now lines) c.args.logs.now)) where
   commits : CommitsLine s c.args.n Sync (path_in c.args.book.now c.args.gfid c.args.p.now)
       (path_in c.commit.new.self c.args.gfid c.args.p.now) told (own_of c.args.client.now c.args.p.now lines) c.in-Ok.done.dead.items
-      (λ _. None)
   commits =
       let k = own_of c.args.client.now c.args.p.now lines in
       let x = path_in c.args.book.now c.args.gfid c.args.p.now in

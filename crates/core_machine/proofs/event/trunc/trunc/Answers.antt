@@ -1,6 +1,6 @@
 -- What a truncation leaves: the path as it was where there is no file, and else with the push of what was pending over its file, which
 -- is then cut or extended.
-use Rattle.fs_types.proofs.Common.{None, ◌≡◌, ◌∙◌, ℕ, List, [], arith, common_steps, false, refl, sym, true}
+use Rattle.fs_types.proofs.Common.{◌≡◌, ◌∙◌, ℕ, List, [], arith, common_steps, false, refl, sym, true}
 use Rattle.std.proofs.lemmas.Result.{on_ok_weaker}
 use Rattle.fs_types.specs.declared.answer.Answer.TheVariants as answers
 use Rattle.fs_script.specs.Vocabulary.{Job}
@@ -68,7 +68,6 @@ module _ (g : Over) (c : In-Ok g) (s : Job) (lines : List ℕ) (told : Noted) (r
     (own_of c.args.client.now c.args.p.now lines) c.args.logs.now)) where
   commits : CommitsLine s c.args.n (Trunc c.args.size) (path_in c.args.book.now c.args.gfid c.args.p.now)
       (path_in c.trunc.new.self c.args.gfid c.args.p.now) told (own_of c.args.client.now c.args.p.now lines) c.in-Ok.done.dead.items
-      (λ _. None)
   commits =
       let k = own_of c.args.client.now c.args.p.now lines in
       let x = path_in c.args.book.now c.args.gfid c.args.p.now in

@@ -4,7 +4,6 @@ use Rattle.fs_types.proofs.Common.{◌≡◌, ◌∙◌, ◌++◌, ℕ, List, []
 use Rattle.std.proofs.lemmas.Result.{on_ok_weaker}
 use Rattle.fs_types.specs.declared.answer.Answer.TheVariants as answers
 use Rattle.fs_script.specs.Vocabulary.{Job}
-use Rattle.fs_script.specs.AnswerKinds.{done_at}
 use Rattle.fs_script.specs.declared.line.Op.TheVariants.{Unlink}
 use Rattle.client_files.specs.declared.noted.Noted.{Noted}
 use Rattle.client_map.specs.Kept.{pending_in}
@@ -55,7 +54,7 @@ module _ (g : Over) (c : In_ok-extend_from_slice g) (s : Job) (lines : List ℕ)
     (own_of c.args.client.now c.args.p.now lines) c.args.logs.now)) where
   commits : CommitsLine s c.args.n Unlink (path_in c.args.book.now c.args.gfid c.args.p.now)
       (path_in c.unlink.new.self c.args.gfid c.args.p.now) told (own_of c.args.client.now c.args.p.now lines)
-      c.extend_from_slice.new.self.items done_at
+      c.extend_from_slice.new.self.items
   commits =
       let x = path_in c.args.book.now c.args.gfid c.args.p.now in
       let there : c.attr-v.result.1.exists ≡ true = grind (arith, common_steps) in
